@@ -1,0 +1,6 @@
+pub mod Word
+pub mod Bytes
+pub mod Bits
+pub mod Faults
+pub mod Layout
+pub mod Reports
