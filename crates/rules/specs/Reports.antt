@@ -2,13 +2,13 @@
 use Prim.Native.Nat.{ℕ, _^_}
 use mathlib.Core.Bool.{Bool, true, false, _&&_}
 use mathlib.Core.List.{List, [], _∷_, _++_}
-use lib.ListN.{length, getD, replicate}
+use lib.ListN.{length, replicate}
 use lib.Dec.{T, eqb}
 use Rattle.rules.specs.Word.{odd, count, word, wordAt}
 use Rattle.rules.specs.Bytes.{is, has}
 use Rattle.rules.specs.Bits.{runBefore, escaped, quoteBit, inString, maskBit, plain, opener, closer, atDepth, levelBit}
 use Rattle.rules.specs.Faults.{Verdict, sound, faulty, closesNone, opensOver, atEnd, faultFrom, faultOf}
-use Rattle.rules.specs.Layout.{Bitmap, quotes, mask, colons, commas, widthOf, sizeOf, row, bitmapOf, address, bitOf, listed, index}
+use Rattle.rules.specs.Layout.{Bitmap, quotes, mask, colons, commas, widthOf, sizeOf, row, bitmapOf, address, bitOf, listed, laid, index, cell}
 
 -- word w of a bitmap has this value
 record Value : Type 0 where
@@ -30,7 +30,7 @@ agrees (faulty n p) (faulty m q) = eqb n m && eqb p q
 
 holds : List ℕ → ℕ → ℕ → List Value → Bool
 holds words levels width [] = true
-holds words levels width (v ∷ vs) = eqb (getD words (address levels width (v .of) (v .at)) 0) (v .value) && holds words levels width vs
+holds words levels width (v ∷ vs) = eqb (cell words levels width (v .of) (v .at)) (v .value) && holds words levels width vs
 
 right : Report → Bool
 unfolding agrees holds
@@ -101,5 +101,5 @@ table =
     []
 
 reports : T (every table)
-unfolding every table odd count word wordAt is has runBefore escaped quoteBit inString maskBit plain opener closer atDepth levelBit closesNone opensOver atEnd faultFrom faultOf widthOf sizeOf row bitmapOf address bitOf listed index
+unfolding every table odd count word wordAt is has runBefore escaped quoteBit inString maskBit plain opener closer atDepth levelBit closesNone opensOver atEnd faultFrom faultOf widthOf sizeOf row bitmapOf address bitOf listed laid index cell
 reports = tt
