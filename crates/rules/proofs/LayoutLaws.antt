@@ -48,7 +48,7 @@ odd-double (suc k) = ap odd e ∙ not-not (odd (2 * k)) ∙ odd-double k
     e = omega arith
 
 -- each bitmap of the index has a row of its own
-row-bitmap : (levels : ℕ) (b : Bitmap) → Has levels b → bitmapOf (row b) ≡ b
+pub row-bitmap : (levels : ℕ) (b : Bitmap) → Has levels b → bitmapOf (row b) ≡ b
 unfolding row bitmapOf odd
 row-bitmap levels quotes h = refl
 row-bitmap levels mask h = refl
@@ -73,7 +73,7 @@ row-lt levels (colons k) h = omega arith
 row-lt levels (commas k) h = omega arith
 
 -- and each row is a bitmap's
-rowed : (levels m : ℕ) → m < 2 + 2 * levels → Has levels (bitmapOf m) × (row (bitmapOf m) ≡ m)
+pub rowed : (levels m : ℕ) → m < 2 + 2 * levels → Has levels (bitmapOf m) × (row (bitmapOf m) ≡ m)
 unfolding row bitmapOf
 rowed levels zero h = (tt, refl)
 rowed levels (suc zero) h = (tt, refl)

@@ -1,12 +1,12 @@
 -- Each rule one byte further, or from a border on; and the mask of a byte of the record. By the definitions' own recursion on the place.
 use mathlib.Core.Path.{_≡_, refl, sym, ap, _∙_}
-use mathlib.Core.Bool.{Bool, true, false, not, _&&_}
+use mathlib.Core.Bool.{Bool, true, false, not, _&&_, _||_}
 use mathlib.Core.List.{List}
 use Prim.Native.Nat.{ℕ, zero, suc, _+_, _-_, _≤_, _<_}
 use native.Mathlib.Omega.{arith}
 use native.Mathlib.Nat.{lt-of-not-le}
 use native.Mathlib.Decide.{decLt}
-use borrow.Author.Tests.{eq-eqb, ne-eqb, lt-ltb, le-ltb}
+use borrow.Author.Tests.{lt-ltb, le-ltb, eqb-true}
 use lib.ListN.{length, getD, List·getD-eq-default}
 use lib.Dec.{eqb, ltb}
 use Rattle.rules.specs.Word.{digit, xor, odd, count}
@@ -56,3 +56,20 @@ is-none comma = refl
 pub has-past : (c : Class) (text : List ℕ) (i : ℕ) → length text ≤ i → has c text i ≡ false
 unfolding has
 has-past c text i h = ap (is c) (List·getD-eq-default text 0 h) ∙ is-none c
+
+-- no byte opens and closes
+opens-closes : (b : ℕ) → is opens b ≡ true → is closes b ≡ false
+unfolding is
+opens-closes b e = go (eqb b 123) refl
+  where
+    go : (d : Bool) → eqb b 123 ≡ d → (eqb b 125 || eqb b 93) ≡ false
+    go true p = rw (eqb-true b 123 p)
+    go false p = rw (eqb-true b 91 (rw p at e))
+
+pub plain-apart : (by : ℕ → Bool) (text : List ℕ) (i : ℕ) → plain by opens text i ≡ true → plain by closes text i ≡ false
+unfolding plain has
+plain-apart by text i e = ap (λ (d : Bool). d && not (by i)) (opens-closes (getD text i 0) (and-left (is opens (getD text i 0)) (not (by i)) e))
+  where
+    and-left : (a b : Bool) → (a && b) ≡ true → a ≡ true
+    and-left true b p = refl
+    and-left false b p = p

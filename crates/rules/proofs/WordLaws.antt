@@ -2,7 +2,7 @@
 use mathlib.Core.Path.{_≡_, refl, sym, ap, ap₂, _∙_}
 use mathlib.Core.Bool.{Bool, true, false, not, _&&_, _||_}
 use Prim.Native.Nat.{ℕ, zero, suc, _+_, _-_, _*_, _/_, _%_, _^_, _≤_, _<_, zero-le, suc-le-suc}
-use native.Mathlib.Nat.{zero-lt-suc, add-mod, mod-lt, mod-eq-of-lt, pow-suc, add-comm, add-zero, add-mul-mod-self-right, mul-assoc, mul-one, two-mul, mul-comm, zero-add, one-mul, sub-zero, div-one, div-add-mod', not-suc-le-zero, le-of-suc-le-suc}
+use native.Mathlib.Nat.{zero-lt-suc, suc-add, add-mod, mod-lt, mod-eq-of-lt, pow-suc, add-comm, add-zero, add-mul-mod-self-right, mul-assoc, mul-one, two-mul, mul-comm, zero-add, one-mul, sub-zero, div-one, div-add-mod', not-suc-le-zero, le-of-suc-le-suc}
 use native.Mathlib.Omega.{arith}
 use lib.Arith.{digits-div, digits-mod}
 use lib.Bits.{bitAnd, bitOr, bitXor, and-step, or-step, xor-step, differ, or-shifted-r}
@@ -49,6 +49,15 @@ word-top n p = rw word-suc (high (digit (p n)) n (word-lt n p))
 
 pub word-mod : (n : ℕ) (p : ℕ → Bool) → word (suc n) p % 2 ^ n ≡ word n p
 word-mod n p = rw word-suc (digits-mod (digit (p n)) (word-lt n p))
+
+-- the digits in two parts
+pub word-cat : (m n : ℕ) (p : ℕ → Bool) → word (m + n) p ≡ word m p + 2 ^ m * word n (λ i. p (m + i))
+unfolding word
+word-cat zero n p = ap (λ (k : ℕ). word k p) (zero-add n) ∙ word-ext n p (λ i. p (0 + i)) (λ i l. ap p (sym (zero-add i))) ∙ omega arith
+word-cat (suc m) n p =
+    ap (λ (k : ℕ). word k p) (suc-add m n) ∙ ap (λ (x : ℕ). x * 2 + digit (p 0)) (word-cat m n (λ i. p (suc i)))
+    ∙ omega (arith, ap (λ (x : ℕ). x * word n (λ i. p (suc (m + i)))) (pow-suc 2 m), mul-assoc (2 ^ m) 2 (word n (λ i. p (suc (m + i)))), mul-assoc (2 ^ m) (word n (λ i. p (suc (m + i)))) 2, mul-comm 2 (word n (λ i. p (suc (m + i)))))
+    ∙ ap (λ (x : ℕ). word (suc m) p + 2 ^ suc m * x) (word-ext n (λ i. p (suc (m + i))) (λ i. p (suc m + i)) (λ i l. ap p (sym (suc-add m i))))
 
 -- ---- operations bit by bit
 

@@ -1,0 +1,10 @@
+-- Laws that this crate's functions share.
+pub mod Filling
+pub mod Lanes
+pub mod Parities
+pub mod EscapeLaw
+pub mod SwingLaws
+pub mod MarkLaws
+pub mod WriteLaws
+pub mod ScanLaws
+pub mod RowLaws
