@@ -8,3 +8,5 @@ pub mod MarkLaws
 pub mod WriteLaws
 pub mod ScanLaws
 pub mod RowLaws
+pub mod SeekLaws
+pub mod LentLaws

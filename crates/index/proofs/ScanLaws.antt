@@ -20,6 +20,7 @@ use Rattle.index.specs.Swinging.{dip, peak, swing, Brackets}
 use Rattle.index.specs.Writing.{marksTill, InRow, Lent}
 use Rattle.index.specs.Scanning.{MarkedWord, swingBy, scanWord}
 use Rattle.index.proofs.MarkLaws.{guessed-on}
+use Rattle.index.proofs.SwingLaws.{swing-ext}
 
 -- ---- sizes
 
@@ -107,3 +108,9 @@ module _ {text words : List ℕ} {levels to width : ℕ} (lent : Lent text words
 
   pub lent-place : (w : ℕ) → w < to → 64 * w < length text
   lent-place w l = in-record (length text) w (omega (arith, lent .within))
+
+-- two masks that agree on the places swing alike
+pub swingBy-ext : (by also : ℕ → Bool) (text : List ℕ) (a m : ℕ) → ((j : ℕ) → j < m → by (a + j) ≡ also (a + j)) → swingBy by text a m ≡ swingBy also text a m
+unfolding swingBy plain
+swingBy-ext by also text a m h =
+    swing-ext _ _ _ _ m (λ j l. (ap (λ (x : Bool). has opens text (a + j) && not x) (h j l), ap (λ (x : Bool). has closes text (a + j) && not x) (h j l)))

@@ -7,7 +7,7 @@ use native.Mathlib.Nat.{add-zero, add-suc}
 use native.Mathlib.Omega.{arith}
 use lib.Bits.{bitOr}
 use Rattle.rules.specs.Word.{digit, count, word, bit}
-use Rattle.rules.proofs.Counting.{count-le}
+use Rattle.rules.proofs.Counting.{count-le, count-ext}
 use Rattle.rules.proofs.WordLaws.{or-word, bit-of}
 use Rattle.index.specs.Swinging.{dip, peak, swing, past, Apart, Brackets, Small}
 use Rattle.index.specs.declared.swing.Swing.{Swing}
@@ -122,3 +122,22 @@ module _ {o c : ℕ → Bool} {i opens closes : ℕ} (b : Brackets o c i opens c
   pub brackets-end : (at : ℕ) {t : Swing} → t ≡ swing o c (i + at) → at ≤ 64 → ((k : ℕ) → at ≤ k → bit (bitOr opens closes) k ≡ false) → t ≡ swing o c (i + 64)
   brackets-end at e l h =
       e ∙ sym (swing-over o c (i + at) (64 - at) (none-from at (64 - at) (omega arith) (λ k p q. h k p))) ∙ ap (swing o c) (omega arith)
+
+-- ---- the same brackets, the same swing
+
+module _ (o c p d : ℕ → Bool) where
+  dip-ext : (m : ℕ) → ((j : ℕ) → j < m → (o j ≡ p j) × (c j ≡ d j)) → dip o c m ≡ dip p d m
+  unfolding dip
+  dip-ext zero h = refl
+  dip-ext (suc m) h =
+      ap₂ max (dip-ext m (λ j l. h j (omega arith))) (ap₂ _-_ (count-ext c d (suc m) (λ j l. h j l .1)) (count-ext o p (suc m) (λ j l. h j l .0)))
+
+  peak-ext : (m : ℕ) → ((j : ℕ) → j < m → (o j ≡ p j) × (c j ≡ d j)) → peak o c m ≡ peak p d m
+  unfolding peak
+  peak-ext zero h = refl
+  peak-ext (suc m) h =
+      ap₂ max (peak-ext m (λ j l. h j (omega arith))) (ap₂ _-_ (count-ext o p (suc m) (λ j l. h j l .0)) (count-ext c d (suc m) (λ j l. h j l .1)))
+
+  pub swing-ext : (m : ℕ) → ((j : ℕ) → j < m → (o j ≡ p j) × (c j ≡ d j)) → swing o c m ≡ swing p d m
+  unfolding swing
+  swing-ext m h = swing-eq (count-ext o p m (λ j l. h j l .0)) (count-ext c d m (λ j l. h j l .1)) (dip-ext m h) (peak-ext m h)

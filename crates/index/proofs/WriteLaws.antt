@@ -3,7 +3,7 @@ use mathlib.Core.Path.{_≡_, refl, sym, ap, ap₂, _∙_}
 use mathlib.Core.Bool.{Bool, true, false, _&&_}
 use mathlib.Core.Logic.{_⊎_, inl, inr}
 use mathlib.Core.List.{List}
-use Prim.Native.Nat.{ℕ, zero, suc, _+_, _*_, _≤_, _<_}
+use Prim.Native.Nat.{ℕ, zero, suc, _+_, _*_, _≤_, _<_, max}
 use native.Mathlib.Omega.{arith}
 use borrow.Author.Tests.{lt-ltb, le-ltb, le-leb, lt-leb}
 use native.Mathlib.Decide.{ℕ-discrete, decLt}
@@ -85,3 +85,24 @@ pub write-all : (levels width from : ℕ) (t : Bitmap → ℕ) (f : Bitmap → �
     → out ≡ rewritten levels width t from f words
 unfolding rewritten
 write-all levels width from t f words out p = cells-only levels width p (laid-cells levels width (over t from f (cell words levels width))) (λ b h w l. refl)
+
+-- a loop from `from` that has come to its end, or that had nothing to do
+pub limit-end : (from to w x : ℕ) → to ≤ w → w ≤ max from to → from ≤ x → ltb x w ≡ ltb x to
+limit-end from to w x l h m = go (decLt x to)
+  where
+    go : Dec (x < to) → ltb x w ≡ ltb x to
+    go (yes k) = lt-ltb x w (omega arith) ∙ sym (lt-ltb x to k)
+    go (no n) = le-ltb x w (omega (arith, lt-of-not-le n)) ∙ sym (le-ltb x to (omega (arith, lt-of-not-le n)))
+
+pub write-end : (levels width from : ℕ) (t u : Bitmap → ℕ) (f : Bitmap → ℕ → ℕ) (words out : List ℕ) → Cells levels width out (over t from f (cell words levels width))
+    → ((b : Bitmap) (w : ℕ) → from ≤ w → ltb w (t b) ≡ ltb w (u b)) → out ≡ rewritten levels width u from f words
+unfolding rewritten
+write-end levels width from t u f words out p same =
+    cells-only levels width p (laid-cells levels width (over u from f (cell words levels width))) at
+  where
+    at : (b : Bitmap) → Has levels b → (w : ℕ) → w < width → over t from f (cell words levels width) b w ≡ over u from f (cell words levels width) b w
+    at b h w l = go (decLt w from)
+      where
+        go : Dec (w < from) → over t from f (cell words levels width) b w ≡ over u from f (cell words levels width) b w
+        go (yes k) = over-below t from f (cell words levels width) b w k ∙ sym (over-below u from f (cell words levels width) b w k)
+        go (no n) = over-same t u from f (cell words levels width) b w (same b w (omega (arith, lt-of-not-le n)))

@@ -4,3 +4,4 @@ pub mod Swinging
 pub mod Guessing
 pub mod Writing
 pub mod Scanning
+pub mod Settling

@@ -3,6 +3,7 @@ mod address;
 mod block;
 mod marks;
 mod scanning;
+mod settling;
 mod swing;
 
 // What is wrong with a record, with its place: 13, 14, 15 and 16.
