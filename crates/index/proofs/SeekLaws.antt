@@ -60,6 +60,22 @@ module _ (o c : ℕ → Bool) where
   pub seek-at : (d i m k : ℕ) {f : Fault} → seek o c d i m ≡ At f → seek o c d i (m + k) ≡ At f
   seek-at d i m k p = seek-then d i m k ∙ ap (λ (x : Sought). then x (λ e. seek o c e (i + m) k)) p
 
+  -- each place moves the depth by one at most
+  pub seek-le : (d i m : ℕ) {e : ℕ} → seek o c d i m ≡ On e → e ≤ d + m
+  unfolding seek
+  seek-le d i zero {e} p = let q : d ≡ e = cc in omega arith
+  seek-le d i (suc m) {e} p = go (o i || c i) (eqb d (limitOf (o i))) (seek-le d (suc i) m) (seek-le (depthPast (o i) d) (suc i) m) (past-le (o i)) p
+    where
+      past-le : (b : Bool) → depthPast b d ≤ d + 1
+      past-le true = omega arith
+      past-le false = omega arith
+
+      go : (a b : Bool) → (seek o c d (suc i) m ≡ On e → e ≤ d + m) → (seek o c (depthPast (o i) d) (suc i) m ≡ On e → e ≤ depthPast (o i) d + m) → depthPast (o i) d ≤ d + 1
+          → pick a (pick b (At (faultOfBracket (o i) i)) (seek o c (depthPast (o i) d) (suc i) m)) (seek o c d (suc i) m) ≡ On e → e ≤ d + suc m
+      go true true f g h q = let z : _≡_ {A = ℕ} 0 1 = cc in absurd (omega arith)
+      go true false f g h q = omega (arith, g q)
+      go false b f g h q = omega (arith, f q)
+
 -- ---- the brackets of a word
 
 module _ {o c : ℕ → Bool} {base opens closes : ℕ} (b : Brackets o c base opens closes) (depth d at n : ℕ) (so-far : seek o c depth base 64 ≡ seek o c d (base + at) (64 - at))

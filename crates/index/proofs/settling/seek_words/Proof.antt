@@ -1,74 +1,133 @@
+-- `seek_words` meets its contract: what is left of the walk is the whole walk, as long as no fault was met.
+use borrow.Author.Needs.{needs}
+use native.Mathlib.Omega.{arith}
+use mathlib.Core.Path.{_≡_, refl, sym, ap, ap₂, _∙_}
+use mathlib.Core.Bool.{Bool, false}
+use mathlib.Core.List.{List}
+use Prim.Native.Nat.{ℕ, suc, _+_, _*_, _-_, _^_, _≤_, _<_}
+use lib.ListN.{length, getD}
+use lib.Bits.{bitAnd}
+use Rattle.rules.specs.Word.{wordAt}
+use Rattle.rules.specs.Bytes.{opens, closes, has}
+use Rattle.rules.specs.Bits.{plain}
+use Rattle.rules.specs.Layout.{widthOf, bitmapOf, cell}
+use Rattle.rules.proofs.RuleLaws.{plain-apart}
+use Rattle.index.specs.declared.Fault.{Fault}
+use Rattle.index.specs.declared.settling.Sought.{Sought}
+use Rattle.index.specs.declared.settling.Sought.the-variants.{On, At}
+use Rattle.index.specs.declared.block.Classes.{Classes}
+use Rattle.index.specs.Block.{lanesFor, BlockOf}
+use Rattle.index.specs.Swinging.{Brackets}
+use Rattle.index.specs.Writing.{Lent}
+use Rattle.index.specs.Settling.{maskIn, seek, seekIn}
+use Rattle.index.proofs.MarkLaws.{plain-of}
+use Rattle.index.proofs.LentLaws.{mask-word-of}
+use Rattle.index.proofs.SeekLaws.{seek-on, seek-at, seek-le}
+use Rattle.index.proofs.ScanLaws.{lent-long, lent-row, lent-place}
 use Rattle.index.proofs.settling.seek_words.Statement.{statement}
 use Rattle.index.proofs.settling.seek_words.Tie as tie
-use Rattle.index.proofs.settling.seek_words.Reads as reads
-use Rattle.index.proofs.settling.seek_words.Lts as lts
-use Rattle.index.proofs.address.get_word.Reads as get-word-reads
-use Rattle.index.proofs.address.width_of.Reads as width-of-reads
-use Rattle.index.proofs.block.block.Reads as block-reads
-use Rattle.index.proofs.block.table.Reads as table-reads
-use Rattle.index.proofs.settling.seek_word.Reads as seek-word-reads
+
+record Inv (text words : List ℕ) (levels from to width start depth w : ℕ) : Type 0 where
+  pub low : from ≤ w
+  pub wide : width ≡ widthOf (length text)
+  pub small : depth ≤ start + 64 * (w - from)
+  pub so-far : seekIn text words levels from to start ≡ seek (plain (maskIn words levels (length text)) opens text) (plain (maskIn words levels (length text)) closes text) depth (64 * w) (64 * (to - w))
+
+module _ {text words : List ℕ} {levels from to width start depth w : ℕ} (lent : Lent text words levels to) (inv : Inv text words levels from to width start depth w) (l : w < to) where
+  here : 64 * w < length text
+  here = lent-place lent (inv .wide) w l
+
+  shallow : start < 2 ^ 32 → depth ≤ 549755813888
+  shallow h = omega (arith, inv .small, here, lent .small)
+
+  abbrev o : ℕ → Bool
+  o = plain (maskIn words levels (length text)) opens text
+
+  abbrev c : ℕ → Bool
+  c = plain (maskIn words levels (length text)) closes text
+
+  parts : 64 * (to - w) ≡ 64 + 64 * (to - (w + 1))
+  parts = omega arith
+
+  module _ {v : ℕ} {classes : Classes} {found : Sought} (ev : v ≡ cell words levels width (bitmapOf 1) w) (fits : v < 2 ^ 64)
+      (block : BlockOf (lanesFor false) (λ j. getD text (64 * w + j) 0) classes)
+      (sought : (o c : ℕ → Bool) → Brackets o c (64 * w) (bitAnd (classes .c) (2 ^ 64 - 1 - v)) (bitAnd (classes .d) (2 ^ 64 - 1 - v)) → found ≡ seek o c depth (64 * w) 64) where
+    found-is : found ≡ seek o c depth (64 * w) 64
+    unfolding bitmapOf lanesFor has wordAt
+    found-is =
+        let by = maskIn words levels (length text) in
+        let m = mask-word-of words levels (length text) w (inv .wide) ev fits in
+        sought o c (record { apart = plain-apart by text; opens-are = plain-of text w by opens (block .c-is) m; closes-are = plain-of text w by closes (block .d-is) m })
+
+    stop : {f : Fault} → found ≡ At f → seekIn text words levels from to start ≡ At f
+    stop e = inv .so-far ∙ ap (seek o c depth (64 * w)) parts ∙ seek-at o c depth (64 * w) 64 (64 * (to - (w + 1))) (sym found-is ∙ e)
+
+    turn : {d : ℕ} → found ≡ On d → Inv text words levels from to width start d (w + 1)
+    turn {d} e =
+        record {
+          low = omega (arith, inv .low);
+          wide = inv .wide;
+          small = omega (arith, seek-le o c depth (64 * w) 64 (sym found-is ∙ e), inv .small, inv .low);
+          so-far =
+              inv .so-far ∙ ap (seek o c depth (64 * w)) parts ∙ seek-on o c depth (64 * w) 64 (64 * (to - (w + 1))) (sym found-is ∙ e)
+              ∙ ap (λ (x : ℕ). seek o c d x (64 * (to - (w + 1)))) (omega arith);
+        }
 
 abbrev Inv-loop : tie.InvT-loop
-Inv-loop text words levels from to start t width depth₀ w₀ depth w = ?
+Inv-loop text words levels from to start t width depth₀ w₀ depth w = Inv text words levels from to width start depth w
 
 abbrev μ-loop : tie.MeasureT-loop
-μ-loop text words levels from to start t width depth₀ w₀ depth w = ?
+μ-loop text words levels from to start t width depth₀ w₀ depth w = to - w
 
--- src/settling.rt:110:13
 table-requires : tie.Need-table-requires Inv-loop μ-loop
-table-requires c κs = ?
+table-requires c κs = search needs
 
--- src/settling.rt:111:9
 width-of-requires : tie.Need-width-of-requires Inv-loop μ-loop
-width-of-requires c κs = ?
+width-of-requires c κs = search needs
 
--- src/settling.rt:114:5
 loop-holds : tie.Need-loop-holds Inv-loop μ-loop
-loop-holds c = ?
+unfolding seekIn
+loop-holds c = record { low = omega arith; wide = c .width-of .ensures; small = omega arith; so-far = refl }
 
--- src/settling.rt:115:18
 mul-at : tie.Need-mul-at Inv-loop μ-loop
-mul-at c = ?
+mul-at c = omega (arith, here (c .before .before .before .before .before .before .pre) (c .before .loop .inv) (c .loop-test .taken), c .before .before .before .before .before .before .pre .small)
 
--- src/settling.rt:116:13
 block-requires : tie.Need-block-requires Inv-loop μ-loop
-block-requires c κs = ?
+block-requires c κs = omega (arith, here (c .before .before .before .before .before .before .before .pre) (c .before .before .loop .inv) (c .before .loop-test .taken))
 
--- src/settling.rt:117:13
 get-word-requires : tie.Need-get-word-requires Inv-loop μ-loop
-get-word-requires c κs = ?
+get-word-requires c κs = (lent-row (c .before .before .before .before .before .before .before .before .pre) (c .before .before .before .loop .inv .wide) 1 (c .before .before .before .loop .w) (omega arith) (c .before .before .loop-test .taken), lent-long (c .before .before .before .before .before .before .before .before .pre) (c .before .before .before .loop .inv .wide))
 
--- src/settling.rt:118:13
 seek-word-requires : tie.Need-seek-word-requires Inv-loop μ-loop
-seek-word-requires c κs = ?
+seek-word-requires c κs = (shallow (c .before .before .before .before .before .before .before .before .before .before .before .pre) (c .before .before .before .before .before .before .loop .inv) (c .before .before .before .before .before .loop-test .taken) (c .before .before .before .before .before .before .before .before .before .before .before .fits .start .fits), omega (arith, here (c .before .before .before .before .before .before .before .before .before .before .before .pre) (c .before .before .before .before .before .before .loop .inv) (c .before .before .before .before .before .loop-test .taken), c .before .before .before .before .before .before .before .before .before .before .before .pre .small))
 
--- src/settling.rt:119:24
 enum-known-sought : tie.Need-enum-known-sought Inv-loop μ-loop
-enum-known-sought c = ?
+enum-known-sought c = search needs
 
--- src/settling.rt:120:13
 enum-told : tie.Need-enum-told Inv-loop μ-loop
-enum-told c = ?
+enum-told c = search needs
 
--- src/settling.rt:120:13
 returns : tie.Need-returns Inv-loop μ-loop
-returns c = ?
+returns c =
+    let at-loop = c .before .before .before .before .before .before .before .before .before in
+    let told = c .enum-told .given in
+    told .1 ∙ sym (stop (c .before .before .before .before .before .before .before .before .before .before .before .before .before .before .pre) (at-loop .loop .inv) (c .before .before .before .before .before .before .before .before .loop-test .taken) (c .before .before .before .before .before .get-word .ensures) (c .before .before .before .before .before .get-word .ok) (c .before .before .before .before .before .before .block .ensures (lanesFor false) (c .before .before .before .before .before .before .before .before .before .before .before .table .ensures)) (c .before .before .seek-word .ensures) (told .1))
 
--- src/settling.rt:123:9
 add-w : tie.Need-add-w Inv-loop μ-loop
-add-w c = ?
+add-w c = search needs
 
--- src/settling.rt:114:5
 loop-less : tie.Need-loop-less Inv-loop μ-loop
-loop-less c = ?
+loop-less c = search needs
 
--- src/settling.rt:114:5
 loop-again : tie.Need-loop-again Inv-loop μ-loop
-loop-again c = ?
+loop-again c = let at-loop = c .before .before .before .before .before .before .before .before .before .before in
+    turn (c .before .before .before .before .before .before .before .before .before .before .before .before .before .before .before .pre) (at-loop .loop .inv) (c .before .before .before .before .before .before .before .before .before .loop-test .taken) (c .before .before .before .before .before .before .get-word .ensures) (c .before .before .before .before .before .before .get-word .ok) (c .before .before .before .before .before .before .before .block .ensures (lanesFor false) (c .before .before .before .before .before .before .before .before .before .before .before .before .table .ensures)) (c .before .before .before .seek-word .ensures) (c .before .sought .given .1)
 
--- src/settling.rt:99:1
 returns-2 : tie.Need-returns-2 Inv-loop μ-loop
-returns-2 c = ?
+unfolding seek
+returns-2 c = let at-loop = c .before in
+    let none : 64 * (c .before .before .before .before .before .before .args .to - at-loop .loop .w) ≡ 0 = omega arith in
+    sym (at-loop .loop .inv .so-far ∙ ap (seek _ _ (at-loop .loop .depth) (64 * at-loop .loop .w)) none)
 
 pub seek-words-spec : {M : Type 1} → statement M
 seek-words-spec =
