@@ -10,3 +10,4 @@ pub mod ScanLaws
 pub mod RowLaws
 pub mod SeekLaws
 pub mod LentLaws
+pub mod LevelLaws

@@ -38,7 +38,7 @@ pub over-same : (t u : Bitmap → ℕ) (from : ℕ) (f old : Bitmap → ℕ → 
 unfolding over
 over-same t u from f old b w e = ap (λ (d : Bool). pick (leb from w && d) (f b w) (old b w)) e
 
-next-limit : (w t : ℕ) → (w ≡ t → ⊥) → ltb w t ≡ ltb w (suc t)
+pub next-limit : (w t : ℕ) → (w ≡ t → ⊥) → ltb w t ≡ ltb w (suc t)
 next-limit w t n = go (decLt w t)
   where
     go : Dec (w < t) → ltb w t ≡ ltb w (suc t)

@@ -5,3 +5,4 @@ pub mod Guessing
 pub mod Writing
 pub mod Scanning
 pub mod Settling
+pub mod Levelling
