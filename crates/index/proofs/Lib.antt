@@ -8,3 +8,4 @@ pub mod MarkLaws
 pub mod WriteLaws
 pub mod ScanLaws
 pub mod RowLaws
+pub mod CheckLaws

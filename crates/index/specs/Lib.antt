@@ -4,3 +4,5 @@ pub mod Swinging
 pub mod Guessing
 pub mod Writing
 pub mod Scanning
+pub mod Answers
+pub mod Checks

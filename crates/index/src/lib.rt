@@ -1,6 +1,7 @@
 // A structural index over a record in lent memory, made chunk by chunk. The face of the crate is `Job`, its operations, and what they answer.
 mod address;
 mod block;
+mod checks;
 mod marks;
 mod scanning;
 mod swing;
