@@ -9,3 +9,5 @@ pub mod WriteLaws
 pub mod ScanLaws
 pub mod RowLaws
 pub mod CheckLaws
+pub mod Signed
+pub mod DepthLaws

@@ -6,3 +6,4 @@ pub mod Writing
 pub mod Scanning
 pub mod Answers
 pub mod Checks
+pub mod Depth

@@ -2,6 +2,7 @@
 mod address;
 mod block;
 mod checks;
+mod depth;
 mod marks;
 mod scanning;
 mod swing;
