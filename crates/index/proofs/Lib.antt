@@ -11,3 +11,6 @@ pub mod RowLaws
 pub mod SeekLaws
 pub mod LentLaws
 pub mod LevelLaws
+pub mod CheckLaws
+pub mod Signed
+pub mod DepthLaws

@@ -6,3 +6,6 @@ pub mod Writing
 pub mod Scanning
 pub mod Settling
 pub mod Levelling
+pub mod Answers
+pub mod Checks
+pub mod Depth

@@ -1,6 +1,8 @@
 // A structural index over a record in lent memory, made chunk by chunk. The face of the crate is `Job`, its operations, and what they answer.
 mod address;
 mod block;
+mod checks;
+mod depth;
 mod levelling;
 mod marks;
 mod scanning;
