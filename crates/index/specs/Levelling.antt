@@ -1,7 +1,7 @@
 -- Level, on all inputs.
 use Prim.Native.Nat.{ℕ, zero, suc, _+_, _*_, _-_, _≤_}
 use mathlib.Core.Path.{_≡_}
-use mathlib.Core.Bool.{Bool, _&&_}
+use mathlib.Core.Bool.{Bool, true, _&&_}
 use mathlib.Core.List.{List}
 use lib.ListN.{length, getD}
 use lib.Dec.{eqb, leb}
@@ -10,6 +10,12 @@ use Rattle.rules.specs.Bytes.{Class, colon, comma, opens, closes}
 use Rattle.rules.specs.Bits.{plain}
 use Rattle.rules.specs.Layout.{Bitmap, quotes, mask, colons, commas, widthOf}
 use Rattle.index.specs.declared.levelling.Spread.{Spread}
+use Rattle.index.specs.declared.Step.the-variants.{Level}
+use Rattle.index.specs.declared.Chunk.{Chunk}
+use Rattle.index.specs.declared.Job.{Job}
+use Rattle.index.specs.declared.Handed.{Handed}
+use Rattle.index.specs.Answers.{onDone}
+use Rattle.index.specs.Checks.{chunkAt, withChunk, spanOf, refusal}
 use Rattle.index.specs.Writing.{rewritten, levelsTill}
 use Rattle.index.specs.Settling.{maskIn}
 
@@ -41,3 +47,21 @@ pub record SpreadOf (s : ℕ) (o c : ℕ → Bool) (i : ℕ) (r : Spread) : Type
   pub slots-are : (k : ℕ) → 1 ≤ k → k ≤ 16 → getD (r .slots) k 0 ≡ word 64 (λ j. deepAt s o c k (i + j))
   pub up-is : r .up ≡ s + count o (i + 64)
   pub down-is : r .down ≡ count c (i + 64)
+
+-- ---- the step
+
+unfoldable pub levelChunk : Job → ℕ → Chunk
+levelChunk j k =
+    let c = chunkAt j k in
+    record { cut = c .cut; scanned = c .scanned; settled = c .settled; levelled = true; inside = c .inside; start = c .start; kept = c .kept }
+
+-- of a record of n bytes and w words
+unfoldable pub levelled : Job → ℕ → ℕ → ℕ → Handed
+levelled j n w k =
+    let a = refusal Level j n w k in
+    record { answer = a; job = onDone a (withChunk j k (levelChunk j k)) j }
+
+unfoldable pub levelledWords : Job → List ℕ → List ℕ → ℕ → List ℕ
+levelledWords j text words k =
+    let s = spanOf j (length text) k in
+    onDone (refusal Level j (length text) (length words) k) (levelWords text (j .levels) (s .from) (s .to) (chunkAt j k .start) words) words

@@ -9,3 +9,4 @@ pub mod Levelling
 pub mod Answers
 pub mod Checks
 pub mod Depth
+pub mod Stepping

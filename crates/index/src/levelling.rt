@@ -9,7 +9,11 @@ ghost use Rattle.rules.specs.Layout.{Bitmap, colons, commas};
 ghost use Rattle.rules.proofs.LayoutLaws.{Cells};
 ghost use Rattle.index.specs.Swinging.{Brackets};
 ghost use Rattle.index.specs.Writing.{over, levelsTill, Lent};
-ghost use Rattle.index.specs.Levelling.{slotOf, SpreadOf, levelWords};
+ghost use Rattle.index.specs.Levelling.{slotOf, SpreadOf, levelWords, levelled, levelledWords};
+use crate::Answer;
+use crate::Handed;
+use crate::Job;
+use crate::Step;
 use crate::address::get_word;
 use crate::address::put_word;
 use crate::address::width_of;
@@ -118,5 +122,28 @@ pub fn level_words(
         up = s.up;
         down = s.down;
         w += 1;
+    }
+}
+
+impl Job {
+    pub fn level(self, text: &[u8], words: &mut [u64], k: usize) -> Handed
+        ensures handed { λ r. ⌜ r ≡ levelled self (length (now (text .entry))) (length (now (words .entry))) k ⌝ }
+        ensures left { λ _. ⌜ now (words .exit) ≡ levelledWords self (now (text .entry)) (now (words .entry)) k ⌝ }
+    {
+        let a = self.refused(Step::Level, text.len(), words.len(), k);
+        let Answer::Done = a else {
+            return Handed {
+                answer: a,
+                job: self,
+            };
+        };
+        let s = self.span(text.len(), k);
+        let mut c = self.chunks[k];
+        level_words(text, words, self.levels, s.from, s.to, c.start);
+        c.levelled = true;
+        Handed {
+            answer: Answer::Done,
+            job: self.with_chunk(k, c),
+        }
     }
 }

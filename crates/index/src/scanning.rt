@@ -6,11 +6,20 @@ ghost use lib.ListN.{length};
 ghost use Rattle.rules.specs.Bits.{escaped};
 ghost use Rattle.index.specs.Block.{lanesFor, TableOf};
 ghost use Rattle.index.specs.Writing.{Lent};
-ghost use Rattle.index.specs.Scanning.{MarkedWord, scanWords, sweptOf};
+ghost use Rattle.rules.specs.Word.{xor};
+ghost use Rattle.index.specs.Checks.{spanOf};
+ghost use Rattle.index.specs.Stepping.{Fitting};
+ghost use Rattle.index.specs.Scanning.{MarkedWord, scanWords, sweptOf, scanChunk, scanned, scannedWords};
+use crate::Answer;
+use crate::Chunk;
+use crate::Handed;
+use crate::Job;
+use crate::Step;
 use crate::address::put_word;
 use crate::address::width_of;
 use crate::block::block;
 use crate::block::table;
+use crate::depth::kept_of;
 use crate::marks::escapes;
 use crate::marks::live;
 use crate::marks::mask_word;
@@ -115,5 +124,56 @@ pub fn scan_words(
     Swept {
         inside: inside,
         swing: swing,
+    }
+}
+
+// One of the two and not both.
+pub fn differs(a: bool, b: bool) -> bool
+    ensures { λ r. ⌜ r ≡ xor a b ⌝ }
+{
+    if a { !b } else { b }
+}
+
+impl Job {
+    // The chunk as scanned, its words written.
+    fn scan_chunk(self, text: &[u8], words: &mut [u64], k: usize, inside: bool) -> Chunk
+        requires { ⌜ Fitting self (length (now text)) (length (now words)) k ⌝ }
+        ensures { λ r. ⌜ r ≡ scanChunk self (now (text .entry)) k inside ⌝ }
+        ensures { λ _. ⌜ now (words .exit) ≡ scanWords (now (text .entry)) (self .levels) (spanOf self (length (now (text .entry))) k .from) (spanOf self (length (now (text .entry))) k .to) inside (now (words .entry)) ⌝ }
+    {
+        let s = self.span(text.len(), k);
+        let swept = scan_words(text, words, self.levels, s.from, s.to, inside);
+        let odd = differs(swept.inside, inside);
+        let swing = swept.swing;
+        let kept = kept_of(odd, swing);
+        let c = self.chunks[k];
+        Chunk {
+            cut: c.cut,
+            scanned: true,
+            settled: c.settled,
+            levelled: c.levelled,
+            inside: inside,
+            start: c.start,
+            kept: kept,
+        }
+    }
+
+    // Scan, with a guess that the chunk begins inside a string or not.
+    pub fn scan(self, text: &[u8], words: &mut [u64], k: usize, inside: bool) -> Handed
+        ensures handed { λ r. ⌜ r ≡ scanned self (now (text .entry)) (length (now (words .entry))) k inside ⌝ }
+        ensures left { λ _. ⌜ now (words .exit) ≡ scannedWords self (now (text .entry)) (now (words .entry)) k inside ⌝ }
+    {
+        let a = self.refused(Step::Scan, text.len(), words.len(), k);
+        let Answer::Done = a else {
+            return Handed {
+                answer: a,
+                job: self,
+            };
+        };
+        let c = self.scan_chunk(text, words, k, inside);
+        Handed {
+            answer: Answer::Done,
+            job: self.with_chunk(k, c),
+        }
     }
 }

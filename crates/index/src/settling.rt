@@ -1,18 +1,32 @@
 // Settle: the mask of a chunk made right, its depths counted by it, and the place of a fault.
 ghost use mathlib.Core.Path.{_≡_};
 ghost use mathlib.Core.Bool.{Bool, true, false};
-ghost use Prim.Native.Nat.{ℕ, _+_, _*_, _≤_};
+ghost use Prim.Native.Nat.{ℕ, _+_, _*_, _≤_, _<_};
 ghost use lib.ListN.{length};
 ghost use Rattle.index.specs.Swinging.{Brackets};
 ghost use Rattle.index.specs.Writing.{Lent};
-ghost use Rattle.index.specs.Settling.{flipWords, swingIn, limitOf, faultOfBracket, depthPast, seek, seekIn};
+ghost use Rattle.index.specs.Settling.{flipWords, swingIn, limitOf, faultOfBracket, depthPast, seek, seekIn, soughtFault, endFault, chunkFault, insideOf, startOf, settleWords, settleKept, settleChunk, settled, settledWords};
+ghost use Rattle.index.specs.Stepping.{Fitting};
+use crate::Answer;
+use crate::Chunk;
 use crate::Fault;
+use crate::Handed;
+use crate::Job;
+use crate::Kept;
+use crate::State;
+use crate::Step;
 use crate::address::get_word;
 use crate::address::put_word;
 use crate::address::width_of;
 use crate::block::block;
 use crate::block::table;
+use crate::checks::Span;
+use crate::depth::climbs;
+use crate::depth::depth_after;
+use crate::depth::falls;
+use crate::depth::kept_of;
 use crate::marks::live;
+use crate::scanning::differs;
 use crate::swing::Swing;
 use crate::swing::brackets;
 
@@ -20,6 +34,12 @@ use crate::swing::brackets;
 pub enum Sought {
     On(u64),
     At(Fault),
+}
+
+// The fault of a chunk, if it has one.
+pub enum Found {
+    Nothing,
+    Here(Fault),
 }
 
 // After a wrong guess: each mask word turned over, and the brackets counted anew.
@@ -123,4 +143,142 @@ pub fn seek_words(
         w += 1;
     }
     Sought::On(depth)
+}
+
+// The fault that the kept counts announce, at its place.
+fn sought_fault(c: Chunk, text: &[u8], words: &[u64], levels: usize, s: Span) -> Found
+    requires { ⌜ Lent (now text) (now words) levels (s .to) ⌝ }
+    ensures { λ r. ⌜ r ≡ soughtFault c (now (text .entry)) (now (words .entry)) levels s ⌝ }
+{
+    let kept = c.kept;
+    if !falls(c.start, kept.low) {
+        if !climbs(c.start, kept.high) {
+            return Found::Nothing;
+        }
+    }
+    let sought = seek_words(text, words, levels, s.from, s.to, c.start);
+    match sought {
+        Sought::On(_) => Found::Nothing,
+        Sought::At(f) => Found::Here(f),
+    }
+}
+
+fn end_fault(c: Chunk, n: usize) -> Found
+    ensures { λ r. ⌜ r ≡ endFault c n ⌝ }
+{
+    let kept = c.kept;
+    if differs(c.inside, kept.odd) {
+        return Found::Here(Fault::InString(n));
+    }
+    if 0 < depth_after(c.start, kept.net) {
+        return Found::Here(Fault::InBracket(n));
+    }
+    Found::Nothing
+}
+
+fn chunk_fault(c: Chunk, text: &[u8], words: &[u64], levels: usize, s: Span, last: bool) -> Found
+    requires { ⌜ Lent (now text) (now words) levels (s .to) ⌝ }
+    ensures { λ r. ⌜ r ≡ chunkFault c (now (text .entry)) (now (words .entry)) levels s last ⌝ }
+{
+    let found = sought_fault(c, text, words, levels, s);
+    match found {
+        Found::Here(_) => found,
+        Found::Nothing => {
+            if last {
+                end_fault(c, text.len())
+            } else {
+                Found::Nothing
+            }
+        }
+    }
+}
+
+impl Job {
+    // Whether the chunk truly begins inside a string, and at which depth: as the chunk before it ends.
+    fn inside_of(self, k: usize) -> bool
+        requires { ⌜ k < 64 ⌝ }
+        ensures { λ r. ⌜ r ≡ insideOf self k ⌝ }
+    {
+        if k == 0 {
+            return false;
+        }
+        let c = self.chunks[k - 1];
+        let kept = c.kept;
+        differs(c.inside, kept.odd)
+    }
+
+    fn start_of(self, k: usize) -> u32
+        requires { ⌜ k < 64 ⌝ }
+        ensures { λ r. ⌜ r ≡ startOf self k ⌝ }
+    {
+        if k == 0 {
+            return 0;
+        }
+        let c = self.chunks[k - 1];
+        let kept = c.kept;
+        depth_after(c.start, kept.net)
+    }
+
+    // What the chunk keeps by its true state, its mask made right.
+    fn settle_kept(self, text: &[u8], words: &mut [u64], k: usize) -> Kept
+        requires { ⌜ Fitting self (length (now text)) (length (now words)) k ⌝ }
+        ensures { λ r. ⌜ r ≡ settleKept self (now (text .entry)) (now (words .exit)) k ⌝ }
+        ensures { λ _. ⌜ now (words .exit) ≡ settleWords self (now (text .entry)) (now (words .entry)) k ⌝ }
+    {
+        let c = self.chunks[k];
+        let kept = c.kept;
+        if !differs(c.inside, self.inside_of(k)) {
+            return kept;
+        }
+        let s = self.span(text.len(), k);
+        let swing = flip_words(text, words, self.levels, s.from, s.to);
+        kept_of(kept.odd, swing)
+    }
+
+    fn settle_chunk(self, text: &[u8], words: &mut [u64], k: usize) -> Chunk
+        requires { ⌜ Fitting self (length (now text)) (length (now words)) k ⌝ }
+        ensures { λ r. ⌜ r ≡ settleChunk self (now (text .entry)) (now (words .exit)) k ⌝ }
+        ensures { λ _. ⌜ now (words .exit) ≡ settleWords self (now (text .entry)) (now (words .entry)) k ⌝ }
+    {
+        let kept = self.settle_kept(text, words, k);
+        let inside = self.inside_of(k);
+        let start = self.start_of(k);
+        let c = self.chunks[k];
+        Chunk {
+            cut: c.cut,
+            scanned: c.scanned,
+            settled: true,
+            levelled: c.levelled,
+            inside: inside,
+            start: start,
+            kept: kept,
+        }
+    }
+
+    pub fn settle(self, text: &[u8], words: &mut [u64], k: usize) -> Handed
+        ensures handed { λ r. ⌜ r ≡ settled self (now (text .entry)) (now (words .entry)) k ⌝ }
+        ensures left { λ _. ⌜ now (words .exit) ≡ settledWords self (now (text .entry)) (now (words .entry)) k ⌝ }
+    {
+        let a = self.refused(Step::Settle, text.len(), words.len(), k);
+        let Answer::Done = a else {
+            return Handed {
+                answer: a,
+                job: self,
+            };
+        };
+        let c = self.settle_chunk(text, words, k);
+        let s = self.span(text.len(), k);
+        let found = chunk_fault(c, text, words, self.levels, s, self.is_last(k));
+        let job = self.with_chunk(k, c);
+        match found {
+            Found::Nothing => Handed {
+                answer: Answer::Done,
+                job: job,
+            },
+            Found::Here(f) => Handed {
+                answer: Answer::Faulty(f),
+                job: job.with_state(State::Stopped(f)),
+            },
+        }
+    }
 }
