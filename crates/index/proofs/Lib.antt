@@ -9,6 +9,8 @@ pub mod WriteLaws
 pub mod ScanLaws
 pub mod RowLaws
 pub mod SeekLaws
+pub mod SettleLaws
+pub mod StepLaws
 pub mod LentLaws
 pub mod LevelLaws
 pub mod CheckLaws

@@ -95,3 +95,7 @@ below-is (negsuc n) = refl
 pub above-is : (z : ℤ) → ltZ (pos 64) z ≡ above64 z
 above-is (pos n) = refl
 above-is (negsuc n) = refl
+
+-- the bits of a number that fits, read back
+pub back32 : (z : ℤ) → mag z < 2147483648 → toZ w32 (ofZ w32 z) ≡ z
+back32 z h = toZ-ofZ w32 z (record { sfits = h })

@@ -5,7 +5,7 @@ ghost use Prim.Native.Nat.{ℕ, _+_, _*_, _≤_, _<_};
 ghost use lib.ListN.{length};
 ghost use Rattle.index.specs.Swinging.{Brackets};
 ghost use Rattle.index.specs.Writing.{Lent};
-ghost use Rattle.index.specs.Settling.{flipWords, swingIn, limitOf, faultOfBracket, depthPast, seek, seekIn, soughtFault, endFault, chunkFault, insideOf, startOf, settleWords, settleKept, settleChunk, settled, settledWords};
+ghost use Rattle.index.specs.Settling.{flipWords, swingIn, limitOf, faultOfBracket, depthPast, seek, seekIn, announced, soughtFault, endFault, chunkFault, insideOf, startOf, settleWords, settleKept, settleChunk, settled, settledWords};
 ghost use Rattle.index.specs.Stepping.{Fitting};
 use crate::Answer;
 use crate::Chunk;
@@ -145,16 +145,24 @@ pub fn seek_words(
     Sought::On(depth)
 }
 
+// Whether the kept counts say that there is a fault in the chunk.
+fn announces(c: Chunk) -> bool
+    ensures { λ r. ⌜ r ≡ announced c ⌝ }
+{
+    let kept = c.kept;
+    if falls(c.start, kept.low) {
+        return true;
+    }
+    climbs(c.start, kept.high)
+}
+
 // The fault that the kept counts announce, at its place.
 fn sought_fault(c: Chunk, text: &[u8], words: &[u64], levels: usize, s: Span) -> Found
     requires { ⌜ Lent (now text) (now words) levels (s .to) ⌝ }
     ensures { λ r. ⌜ r ≡ soughtFault c (now (text .entry)) (now (words .entry)) levels s ⌝ }
 {
-    let kept = c.kept;
-    if !falls(c.start, kept.low) {
-        if !climbs(c.start, kept.high) {
-            return Found::Nothing;
-        }
+    if !announces(c) {
+        return Found::Nothing;
     }
     let sought = seek_words(text, words, levels, s.from, s.to, c.start);
     match sought {

@@ -1,38 +1,41 @@
+-- `Job::scan` meets its contract.
 use borrow.Author.Needs.{needs}
+use mathlib.Core.Path.{_≡_, sym, ap, ap₂, _∙_}
+use Rattle.index.specs.declared.Step.the-variants.{Scan}
+use Rattle.index.specs.Checks.{withChunk}
+use Rattle.index.specs.Scanning.{scanned, scannedWords}
+use Rattle.index.proofs.StepLaws.{fitting, handed, as-refused, as-done}
 use Rattle.index.proofs.Job.scan.Statement.{statement}
 use Rattle.index.proofs.Job.scan.Tie as tie
-use Rattle.index.proofs.Job.scan.Reads as reads
-use Rattle.index.proofs.Job.scan.Lts as lts
-use Rattle.index.proofs.Job.refused.Reads as refused-reads
-use Rattle.index.proofs.Job.scan_chunk.Reads as scan-chunk-reads
-use Rattle.index.proofs.Job.with_chunk.Reads as with-chunk-reads
 
--- src/scanning.rt:166:13
 refused-requires : tie.Need-refused-requires
 refused-requires c κs = search needs
 
 enum-told : tie.Need-enum-told
 enum-told c = search needs
 
--- src/scanning.rt:168:13
 returns : tie.Need-returns
-returns c = ?
+unfolding scanned scannedWords
+returns c = let e = c .before .refused .ensures in
+    (ap₂ handed e (as-refused e (c .match .keys2) _ _), as-refused e (c .match .keys2) _ _)
 
--- src/scanning.rt:173:13
 scan-chunk-requires : tie.Need-scan-chunk-requires
-scan-chunk-requires c κs = ?
+scan-chunk-requires c κs = fitting Scan _ _ _ _ (sym (c .before .before .before .refused .ensures) ∙ c .before .enum-told .given .1)
 
--- src/scanning.rt:176:18
 with-chunk-requires : tie.Need-with-chunk-requires
-with-chunk-requires c κs = ?
+with-chunk-requires c κs = fitting Scan _ _ _ _ (sym (c .before .before .before .before .before .before .refused .ensures) ∙ c .before .before .before .before .enum-told .given .1) .chunk
 
--- src/scanning.rt:162:5
 same-length : tie.Need-same-length
 same-length c = search needs
 
--- src/scanning.rt:162:5
 returns-2 : tie.Need-returns-2
-returns-2 c = ?
+unfolding scanned scannedWords
+returns-2 c = let a = c .before .before .before .before .before .before .before .before .before .before .args in
+    let done = sym (c .before .before .before .before .before .before .before .refused .ensures) ∙ c .before .before .before .before .before .enum-told .given .1 in
+    (
+      ap₂ handed (sym done) (c .with-chunk .ensures ∙ ap (withChunk (a .self) (a .k)) (c .before .before .before .scan-chunk .ensures .0) ∙ as-done done _ _),
+      c .before .before .before .scan-chunk .ensures .1 ∙ as-done done _ _
+    )
 
 pub scan-spec : {M : Type 1} → statement M
 scan-spec =

@@ -1,33 +1,34 @@
+-- `start_of` meets its contract.
 use borrow.Author.Needs.{needs}
+use mathlib.Core.Path.{_≡_, sym, ap, _∙_}
+use Prim.Native.Nat.{_-_}
+use lib.IntN.{ℤ, pos, _+ℤ_}
+use Rattle.index.specs.Checks.{chunkAt}
+use Rattle.index.specs.Depth.{clampDepth}
+use Rattle.index.proofs.Signed.{back32}
+use Rattle.index.proofs.SettleLaws.{start-first, start-next}
 use Rattle.index.proofs.Job.start_of.Statement.{statement}
 use Rattle.index.proofs.Job.start_of.Tie as tie
-use Rattle.index.proofs.Job.start_of.Reads as reads
-use Rattle.index.proofs.Job.start_of.Lts as lts
-use Rattle.index.proofs.depth.depth_after.Reads as depth-after-reads
 
--- src/settling.rt:215:13
 returns : tie.Need-returns
-returns c = ?
+returns c = sym (start-first (c .before .args .t1) (c .before .args .k) (c .if1 .taken))
 
--- src/settling.rt:217:29
 sub-c : tie.Need-sub-c
 sub-c c = search needs
 
--- src/settling.rt:217:17
 mul-c : tie.Need-mul-c
 mul-c c = search needs
 
--- src/settling.rt:217:17
 element-copy-out-c : tie.Need-element-copy-out-c
 element-copy-out-c c = search needs
 
--- src/settling.rt:219:9
 depth-after-requires : tie.Need-depth-after-requires
 depth-after-requires c κs = search needs
 
--- src/settling.rt:210:5
 returns-2 : tie.Need-returns-2
-returns-2 c = ?
+returns-2 c = let a = c .before .before .before .before .before .args in
+    let d = chunkAt (a .t1) (a .k - 1) in
+    c .depth-after .ensures ∙ ap (λ (z : ℤ). clampDepth (pos (d .start) +ℤ z)) (back32 (d .kept .net) (c .before .struct-told .given .1 .0 .1)) ∙ sym (start-next (a .t1) (a .k) (c .before .before .before .before .if1 .left))
 
 pub start-of-spec : {M : Type 1} → statement M
 start-of-spec =

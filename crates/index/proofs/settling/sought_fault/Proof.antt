@@ -1,50 +1,41 @@
+-- `sought_fault` meets its contract: the place is looked for only where the counts announce a fault.
 use borrow.Author.Needs.{needs}
+use borrow.Author.Tests.{not-true, not-false}
+use mathlib.Core.Path.{_≡_, sym, ap, _∙_}
+use Rattle.index.specs.Settling.{ofSought}
+use Rattle.index.proofs.SettleLaws.{not-announced, is-announced}
 use Rattle.index.proofs.settling.sought_fault.Statement.{statement}
 use Rattle.index.proofs.settling.sought_fault.Tie as tie
-use Rattle.index.proofs.settling.sought_fault.Reads as reads
-use Rattle.index.proofs.settling.sought_fault.Lts as lts
-use Rattle.index.proofs.depth.climbs.Reads as climbs-reads
-use Rattle.index.proofs.depth.falls.Reads as falls-reads
-use Rattle.index.proofs.settling.seek_words.Reads as seek-words-reads
 
--- src/settling.rt:154:9
-falls-requires : tie.Need-falls-requires
-falls-requires c κs = search needs
+announces-requires : tie.Need-announces-requires
+announces-requires c κs = search needs
 
--- src/settling.rt:155:13
-climbs-requires : tie.Need-climbs-requires
-climbs-requires c κs = search needs
-
--- src/settling.rt:156:13
 returns : tie.Need-returns
-returns c = ?
+returns c = let a = c .before .before .before .before .args in
+    sym (not-announced (a .c) (a .text .now) (a .words .now) (a .levels) (a .s) (sym (c .before .announces .ensures) ∙ not-true _ (c .if1 .taken)))
 
--- src/settling.rt:159:9
 seek-words-requires : tie.Need-seek-words-requires
 seek-words-requires c κs = search needs
 
--- src/settling.rt:161:26
 enum-told : tie.Need-enum-told
 enum-told c = search needs
 
--- src/settling.rt:162:20
 enum-known-sought : tie.Need-enum-known-sought
 enum-known-sought c = search needs
 
--- src/settling.rt:149:1
 returns-2 : tie.Need-returns-2
-returns-2 c = ?
+returns-2 c = let a = c .before .before .before .before .before .before .before .args in
+    sym (is-announced (a .c) (a .text .now) (a .words .now) (a .levels) (a .s) (sym (c .before .before .before .before .announces .ensures) ∙ not-false _ (c .before .before .before .if1 .left)) ∙ ap ofSought (sym (c .before .before .seek-words .ensures) ∙ c .enum-told .given .1))
 
--- src/settling.rt:149:1
 returns-3 : tie.Need-returns-3
-returns-3 c = ?
+returns-3 c = let a = c .before .before .before .before .before .before .before .before .args in
+    sym (is-announced (a .c) (a .text .now) (a .words .now) (a .levels) (a .s) (sym (c .before .before .before .before .before .announces .ensures) ∙ not-false _ (c .before .before .before .before .if1 .left)) ∙ ap ofSought (sym (c .before .before .before .seek-words .ensures) ∙ c .before .sought .given .1))
 
 pub sought-fault-spec : {M : Type 1} → statement M
 sought-fault-spec =
     tie.close
     (tie.spec
-    falls-requires
-    climbs-requires
+    announces-requires
     returns
     seek-words-requires
     enum-told
