@@ -1,51 +1,53 @@
+-- `Job::level` meets its contract.
 use borrow.Author.Needs.{needs}
+use mathlib.Core.Path.{_≡_, sym, ap, ap₂, _∙_}
+use native.Mathlib.Omega.{arith}
+use Rattle.index.specs.declared.Step.the-variants.{Level}
+use Rattle.index.specs.declared.checks.Span.{Span}
+use Rattle.index.specs.Checks.{chunkAt, withChunk}
+use Rattle.index.specs.Levelling.{levelChunk, levelWords, levelled, levelledWords}
+use Rattle.index.proofs.StepLaws.{fitting, lent-chunk, handed, as-refused, as-done}
 use Rattle.index.proofs.Job.level.Statement.{statement}
 use Rattle.index.proofs.Job.level.Tie as tie
-use Rattle.index.proofs.Job.level.Reads as reads
-use Rattle.index.proofs.Job.level.Lts as lts
-use Rattle.index.proofs.Job.refused.Reads as refused-reads
-use Rattle.index.proofs.Job.span.Reads as span-reads
-use Rattle.index.proofs.Job.with_chunk.Reads as with-chunk-reads
-use Rattle.index.proofs.levelling.level_words.Reads as level-words-reads
 
--- src/levelling.rt:133:13
 refused-requires : tie.Need-refused-requires
 refused-requires c κs = search needs
 
 enum-told : tie.Need-enum-told
 enum-told c = search needs
 
--- src/levelling.rt:135:13
 returns : tie.Need-returns
-returns c = ?
+unfolding levelled levelledWords
+returns c = let e = c .before .refused .ensures in
+    (ap₂ handed e (as-refused e (c .match .keys2) _ _), as-refused e (c .match .keys2) _ _)
 
--- src/levelling.rt:140:13
 span-requires : tie.Need-span-requires
-span-requires c κs = ?
+span-requires c κs = (let f = fitting Level _ _ _ _ (sym (c .before .before .refused .ensures) ∙ c .enum-told .given .1) in (f .short, f .chunk))
 
--- src/levelling.rt:141:21
 mul-c : tie.Need-mul-c
-mul-c c = ?
+mul-c c = omega (arith, fitting Level _ _ _ _ (sym (c .before .before .before .refused .ensures) ∙ c .before .enum-told .given .1) .chunk)
 
--- src/levelling.rt:141:21
 element-copy-out-c : tie.Need-element-copy-out-c
-element-copy-out-c c = ?
+element-copy-out-c c = fitting Level _ _ _ _ (sym (c .before .before .before .refused .ensures) ∙ c .before .enum-told .given .1) .chunk
 
--- src/levelling.rt:142:9
 level-words-requires : tie.Need-level-words-requires
-level-words-requires c κs = ?
+level-words-requires c κs = let a = c .before .before .before .before .before .before .before .before .args in
+    let f = fitting Level _ _ _ _ (sym (c .before .before .before .before .before .refused .ensures) ∙ c .before .before .before .enum-told .given .1) in
+    rw (c .before .before .span .ensures) (lent-chunk (a .t1) (a .text .now) (a .words .now) (a .k) f)
 
--- src/levelling.rt:146:18
 with-chunk-requires : tie.Need-with-chunk-requires
-with-chunk-requires c κs = ?
+with-chunk-requires c κs = fitting Level _ _ _ _ (sym (c .before .before .before .before .before .before .before .before .refused .ensures) ∙ c .before .before .before .before .before .before .enum-told .given .1) .chunk
 
--- src/levelling.rt:129:5
 same-length : tie.Need-same-length
 same-length c = search needs
 
--- src/levelling.rt:129:5
 returns-2 : tie.Need-returns-2
-returns-2 c = ?
+unfolding levelled levelledWords levelChunk
+returns-2 c = let a = c .before .before .before .before .before .before .before .before .before .before .before .before .args in
+    let done = sym (c .before .before .before .before .before .before .before .before .before .refused .ensures) ∙ c .before .before .before .before .before .before .before .enum-told .given .1 in (
+      ap₂ handed (sym done) (c .with-chunk .ensures ∙ as-done done _ _),
+      c .before .before .before .level-words .ensures ∙ ap (λ (s : Span). levelWords (a .text .now) (a .t1 .levels) (s .from) (s .to) (chunkAt (a .t1) (a .k) .start) (a .words .now)) (c .before .before .before .before .before .before .span .ensures) ∙ as-done done _ _,
+    )
 
 pub level-spec : {M : Type 1} → statement M
 level-spec =

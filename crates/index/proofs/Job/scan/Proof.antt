@@ -31,10 +31,9 @@ same-length c = search needs
 returns-2 : tie.Need-returns-2
 unfolding scanned scannedWords
 returns-2 c = let a = c .before .before .before .before .before .before .before .before .before .before .args in
-    let done = sym (c .before .before .before .before .before .before .before .refused .ensures) ∙ c .before .before .before .before .before .enum-told .given .1 in
-    (
+    let done = sym (c .before .before .before .before .before .before .before .refused .ensures) ∙ c .before .before .before .before .before .enum-told .given .1 in (
       ap₂ handed (sym done) (c .with-chunk .ensures ∙ ap (withChunk (a .self) (a .k)) (c .before .before .before .scan-chunk .ensures .0) ∙ as-done done _ _),
-      c .before .before .before .scan-chunk .ensures .1 ∙ as-done done _ _
+      c .before .before .before .scan-chunk .ensures .1 ∙ as-done done _ _,
     )
 
 pub scan-spec : {M : Type 1} → statement M

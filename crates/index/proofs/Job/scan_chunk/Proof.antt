@@ -70,10 +70,9 @@ unfolding scanChunk
 returns c = let a = c .before .before .before .before .before .before .before .before .before .before .before .args in
     let span = c .before .before .before .before .before .before .before .before .span .ensures in
     let d = chunkAt (a .t1) (a .k) in
-    let kept = kept-is (a .text .now) (c .before .before .before .before .before .before .before .before .span .result) (a .inside) (c .before .before .before .before .before .before .scan-words .ensures .0) (c .before .before .before .differs .ensures) (c .before .kept-of .ensures) in
-    (
+    let kept = kept-is (a .text .now) (c .before .before .before .before .before .before .before .before .span .result) (a .inside) (c .before .before .before .before .before .before .scan-words .ensures .0) (c .before .before .before .differs .ensures) (c .before .kept-of .ensures) in (
       ap (λ (x : Kept). record { cut = d .cut; scanned = true; settled = d .settled; levelled = d .levelled; inside = a .inside; start = d .start; kept = x }) (kept ∙ ap (λ (s : Span). scanKept (a .text .now) s (a .inside)) span),
-      c .before .before .before .before .before .before .scan-words .ensures .1 ∙ ap (λ (s : Span). scanWords (a .text .now) (a .t1 .levels) (s .from) (s .to) (a .inside) (a .words .now)) span
+      c .before .before .before .before .before .before .scan-words .ensures .1 ∙ ap (λ (s : Span). scanWords (a .text .now) (a .t1 .levels) (s .from) (s .to) (a .inside) (a .words .now)) span,
     )
 
 pub scan-chunk-spec : {M : Type 1} → statement M

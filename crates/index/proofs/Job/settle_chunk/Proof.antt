@@ -1,39 +1,41 @@
+-- `settle_chunk` meets its contract.
 use borrow.Author.Needs.{needs}
+use mathlib.Core.Path.{_≡_, ap, ap₂, _∙_}
+use mathlib.Core.Bool.{Bool, true}
+use Prim.Native.Nat.{ℕ}
+use Rattle.index.specs.declared.Kept.{Kept}
+use Rattle.index.specs.declared.Chunk.{Chunk}
+use Rattle.index.specs.Checks.{chunkAt}
+use Rattle.index.specs.Settling.{settleChunk}
 use Rattle.index.proofs.Job.settle_chunk.Statement.{statement}
 use Rattle.index.proofs.Job.settle_chunk.Tie as tie
-use Rattle.index.proofs.Job.settle_chunk.Reads as reads
-use Rattle.index.proofs.Job.settle_chunk.Lts as lts
-use Rattle.index.proofs.Job.inside_of.Reads as inside-of-reads
-use Rattle.index.proofs.Job.settle_kept.Reads as settle-kept-reads
-use Rattle.index.proofs.Job.start_of.Reads as start-of-reads
 
--- src/settling.rt:243:13
 settle-kept-requires : tie.Need-settle-kept-requires
-settle-kept-requires c κs = search needs
+settle-kept-requires c κs = c .before .before .before .pre
 
--- src/settling.rt:244:13
 inside-of-requires : tie.Need-inside-of-requires
-inside-of-requires c κs = search needs
+inside-of-requires c κs = c .before .before .before .before .before .before .pre .chunk
 
--- src/settling.rt:245:13
 start-of-requires : tie.Need-start-of-requires
-start-of-requires c κs = search needs
+start-of-requires c κs = c .before .before .before .before .before .before .before .pre .chunk
 
--- src/settling.rt:246:17
 mul-c : tie.Need-mul-c
 mul-c c = search needs
 
--- src/settling.rt:246:17
 element-copy-out-c : tie.Need-element-copy-out-c
-element-copy-out-c c = search needs
+element-copy-out-c c = c .before .before .before .before .before .before .before .before .pre .chunk
 
--- src/settling.rt:238:5
 same-length : tie.Need-same-length
 same-length c = search needs
 
--- src/settling.rt:238:5
 returns : tie.Need-returns
-returns c = ?
+unfolding settleChunk
+returns c = let a = c .before .before .before .before .before .before .before .before .before .args in
+    let d = chunkAt (a .t1) (a .k) in
+    let chunk : Bool → ℕ → Kept → Chunk = λ i s x. record { cut = d .cut; scanned = d .scanned; settled = true; levelled = d .levelled; inside = i; start = s; kept = x } in (
+      ap₂ (λ (i : Bool) (s : ℕ). chunk i s (c .before .before .before .before .before .settle-kept .result)) (c .before .before .inside-of .ensures) (c .before .start-of .ensures) ∙ ap (chunk _ _) (c .before .before .before .before .before .settle-kept .ensures .0),
+      c .before .before .before .before .before .settle-kept .ensures .1,
+    )
 
 pub settle-chunk-spec : {M : Type 1} → statement M
 settle-chunk-spec =

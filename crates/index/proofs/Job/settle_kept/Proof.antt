@@ -1,53 +1,76 @@
+-- `settle_kept` meets its contract: a right guess changes nothing.
 use borrow.Author.Needs.{needs}
+use borrow.Author.Tests.{not-true, not-false}
+use mathlib.Core.Path.{_≡_, refl, sym, ap, ap₂, _∙_, subst}
+use mathlib.Core.Bool.{Bool, true, false}
+use mathlib.Core.List.{List}
+use Prim.Native.Nat.{ℕ}
+use lib.ListN.{length}
+use Rattle.rules.specs.Word.{pick, xor}
+use Rattle.index.specs.declared.Kept.{Kept}
+use Rattle.index.specs.declared.Job.{Job}
+use Rattle.index.specs.declared.checks.Span.{Span}
+use Rattle.index.specs.declared.swing.Swing.{Swing}
+use Rattle.index.specs.Swinging.{Small}
+use Rattle.index.specs.Checks.{chunkAt, spanOf}
+use Rattle.index.specs.Depth.{keptOf}
+use Rattle.index.specs.Settling.{guessWrong, settleKept, settleWords, flipWords, swingIn}
+use Rattle.index.proofs.StepLaws.{lent-chunk, small-swing}
 use Rattle.index.proofs.Job.settle_kept.Statement.{statement}
 use Rattle.index.proofs.Job.settle_kept.Tie as tie
-use Rattle.index.proofs.Job.settle_kept.Reads as reads
-use Rattle.index.proofs.Job.settle_kept.Lts as lts
-use Rattle.index.proofs.Job.inside_of.Reads as inside-of-reads
-use Rattle.index.proofs.Job.span.Reads as span-reads
-use Rattle.index.proofs.depth.kept_of.Reads as kept-of-reads
-use Rattle.index.proofs.scanning.differs.Reads as differs-reads
-use Rattle.index.proofs.settling.flip_words.Reads as flip-words-reads
 
--- src/settling.rt:228:17
+module _ (j : Job) (text words after : List ℕ) (k : ℕ) where
+  right : guessWrong j k ≡ false → (chunkAt j k .kept ≡ settleKept j text words k) × (words ≡ settleWords j text words k)
+  unfolding settleKept settleWords
+  right e = (rw e, rw e)
+
+  wrong : guessWrong j k ≡ true → {s : Span} {swing : Swing} {kept : Kept} → s ≡ spanOf j (length text) k → swing ≡ swingIn text after (j .levels) (s .from) (s .to)
+      → kept ≡ keptOf (chunkAt j k .kept .odd) swing → after ≡ flipWords (length text) (j .levels) (s .from) (s .to) words → (kept ≡ settleKept j text after k) × (after ≡ settleWords j text words k)
+  unfolding settleKept settleWords
+  wrong e {s} {swing} {kept} es ew ek ea = (
+    ek ∙ ap (keptOf (chunkAt j k .kept .odd)) (ew ∙ ap (λ (x : Span). swingIn text after (j .levels) (x .from) (x .to)) es) ∙ rw e,
+    ea ∙ ap (λ (x : Span). flipWords (length text) (j .levels) (x .from) (x .to) words) es ∙ rw e,
+  )
+
 mul-c : tie.Need-mul-c
 mul-c c = search needs
 
--- src/settling.rt:228:17
 element-copy-out-c : tie.Need-element-copy-out-c
-element-copy-out-c c = search needs
+element-copy-out-c c = c .before .before .pre .chunk
 
--- src/settling.rt:230:31
 inside-of-requires : tie.Need-inside-of-requires
-inside-of-requires c κs = search needs
+inside-of-requires c κs = c .before .before .before .before .pre .chunk
 
--- src/settling.rt:230:13
 differs-requires : tie.Need-differs-requires
 differs-requires c κs = search needs
 
--- src/settling.rt:231:13
 returns : tie.Need-returns
-returns c = ?
+unfolding guessWrong
+returns c = let a = c .before .before .before .before .before .before .before .args in
+    right (a .t1) (a .text .now) (a .words .now) (a .words .now) (a .k) (sym (c .before .differs .ensures ∙ ap (xor (chunkAt (a .t1) (a .k) .inside)) (c .before .before .inside-of .ensures)) ∙ not-true _ (c .if1 .taken))
 
--- src/settling.rt:233:13
 span-requires : tie.Need-span-requires
-span-requires c κs = search needs
+span-requires c κs = (c .before .before .before .before .before .before .before .pre .short, c .before .before .before .before .before .before .before .pre .chunk)
 
--- src/settling.rt:234:13
 flip-words-requires : tie.Need-flip-words-requires
-flip-words-requires c κs = ?
+flip-words-requires c κs = let a = c .before .before .before .before .before .before .before .before .before .args in
+    rw (c .before .span .ensures) (lent-chunk (a .t1) (a .text .now) (a .words .now) (a .k) (c .before .before .before .before .before .before .before .before .before .pre))
 
--- src/settling.rt:235:9
 kept-of-requires : tie.Need-kept-of-requires
-kept-of-requires c κs = ?
+unfolding swingIn
+kept-of-requires c κs = let a = c .before .before .before .before .before .before .before .before .before .before .before .before .args in
+    let s = c .before .before .before .before .span .result in
+    subst (Small 16777216) (sym (c .before .before .flip-words .ensures .0))
+    (small-swing _ (a .text .now) (a .words .now) (a .t1 .levels) (s .from) (s .to) (rw (c .before .before .before .before .span .ensures) (lent-chunk (a .t1) (a .text .now) (a .words .now) (a .k) (c .before .before .before .before .before .before .before .before .before .before .before .before .pre))))
 
--- src/settling.rt:223:5
 same-length : tie.Need-same-length
 same-length c = search needs
 
--- src/settling.rt:223:5
 returns-2 : tie.Need-returns-2
-returns-2 c = ?
+unfolding guessWrong
+returns-2 c = let a = c .before .before .before .before .before .before .before .before .before .before .before .before .before .args in
+    wrong (a .t1) (a .text .now) (a .words .now) (c .before .before .before .flip-words .last .1 .0) (a .k) (sym (c .before .before .before .before .before .before .before .differs .ensures ∙ ap (xor (chunkAt (a .t1) (a .k) .inside)) (c .before .before .before .before .before .before .before .before .inside-of .ensures)) ∙ not-false _ (c .before .before .before .before .before .before .if1 .left))
+    (c .before .before .before .before .before .span .ensures) (c .before .before .before .flip-words .ensures .0) (c .kept-of .ensures) (c .before .before .before .flip-words .ensures .1)
 
 pub settle-kept-spec : {M : Type 1} → statement M
 settle-kept-spec =
