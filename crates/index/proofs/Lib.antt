@@ -8,6 +8,9 @@ pub mod MarkLaws
 pub mod WriteLaws
 pub mod ScanLaws
 pub mod RowLaws
+pub mod AnswerLaws
 pub mod CheckLaws
 pub mod Signed
 pub mod DepthLaws
+pub mod OpenLaws
+pub mod CloseLaws

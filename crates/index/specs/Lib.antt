@@ -7,3 +7,5 @@ pub mod Scanning
 pub mod Answers
 pub mod Checks
 pub mod Depth
+pub mod Opening
+pub mod Closing

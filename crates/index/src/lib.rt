@@ -2,8 +2,10 @@
 mod address;
 mod block;
 mod checks;
+mod closing;
 mod depth;
 mod marks;
+mod opening;
 mod scanning;
 mod swing;
 
