@@ -14,3 +14,4 @@ pub mod Signed
 pub mod DepthLaws
 pub mod OpenLaws
 pub mod CloseLaws
+pub mod NumberLaws

@@ -4,6 +4,7 @@ use mathlib.Core.Bool.{Bool, true, false, not, _||_, or-true}
 use mathlib.Core.List.{List, [], _∷_}
 use Prim.Native.Nat.{ℕ, zero, suc, _+_, _-_, _%_, _≤_, _<_}
 use native.Mathlib.Omega.{arith}
+use native.Mathlib.Decide.{ℕ-discrete}
 use native.Mathlib.Numerals.{add-one}
 use lib.ListN.{length, getD}
 use lib.Dec.{eqb, ltb}
@@ -39,6 +40,27 @@ module _ (p : ℕ → Bool) (n i : ℕ) where
   pub first-end : n ≤ i → first p i (n - i) ≡ i
   unfolding first
   first-end h = let z : n - i ≡ 0 = omega arith in rw z
+
+-- it holds there, if that is one of them, and of none before
+pub first-holds : (p : ℕ → Bool) (i m : ℕ) → first p i m < i + m → p (first p i m) ≡ true
+unfolding first
+first-holds p i zero h = absurd (omega arith)
+first-holds p i (suc m) h = go (p i) refl (first-holds p (suc i) m) h
+  where
+    go : (b : Bool) → p i ≡ b → (first p (suc i) m < suc i + m → p (first p (suc i) m) ≡ true)
+        → pick b i (first p (suc i) m) < i + suc m → p (pick b i (first p (suc i) m)) ≡ true
+    go true e later k = e
+    go false e later k = later (omega arith)
+
+pub first-before : (p : ℕ → Bool) (i m e : ℕ) → i ≤ e → e < first p i m → p e ≡ false
+unfolding first
+first-before p i zero e a h = absurd (omega arith)
+first-before p i (suc m) e a h = go (p i) refl (first-before p (suc i) m e) h (ℕ-discrete i e)
+  where
+    go : (b : Bool) → p i ≡ b → (suc i ≤ e → e < first p (suc i) m → p e ≡ false) → e < pick b i (first p (suc i) m) → Dec (i ≡ e) → p e ≡ false
+    go true q later k d = absurd (omega arith)
+    go false q later k (yes z) = rw (← z) q
+    go false q later k (no z) = later (omega arith) k
 
 -- ---- bad cuts
 

@@ -9,3 +9,4 @@ pub mod Checks
 pub mod Depth
 pub mod Opening
 pub mod Closing
+pub mod Numbers
