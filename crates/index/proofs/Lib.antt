@@ -13,6 +13,10 @@ pub mod SettleLaws
 pub mod StepLaws
 pub mod LentLaws
 pub mod LevelLaws
+pub mod AnswerLaws
 pub mod CheckLaws
 pub mod Signed
 pub mod DepthLaws
+pub mod OpenLaws
+pub mod CloseLaws
+pub mod NumberLaws

@@ -10,3 +10,6 @@ pub mod Answers
 pub mod Checks
 pub mod Depth
 pub mod Stepping
+pub mod Opening
+pub mod Closing
+pub mod Numbers

@@ -2,9 +2,11 @@
 mod address;
 mod block;
 mod checks;
+mod closing;
 mod depth;
 mod levelling;
 mod marks;
+mod opening;
 mod scanning;
 mod settling;
 mod swing;
