@@ -1,0 +1,2 @@
+-- The theorems stand in Theorems; the others lead there.
+pub mod Walks
