@@ -1,0 +1,69 @@
+-- Runs of a job over one unchanged record: an opening, any calls in any order, each with the job and the words that the last one left.
+use mathlib.Core.Path.{_≡_}
+use mathlib.Core.Bool.{Bool}
+use mathlib.Core.List.{List, [], _∷_}
+use Prim.Native.Nat.{ℕ}
+use lib.ListN.{length}
+use Rattle.index.specs.declared.Answer.{Answer}
+use Rattle.index.specs.declared.Answer.the-variants.{Done, Faulty}
+use Rattle.index.specs.declared.Fault.{Fault}
+use Rattle.index.specs.declared.Job.{Job}
+use Rattle.index.specs.Opening.{opening, opened}
+use Rattle.index.specs.Scanning.{scanned, scannedWords}
+use Rattle.index.specs.Settling.{settled, settledWords}
+use Rattle.index.specs.Levelling.{levelled, levelledWords}
+use Rattle.index.specs.Closing.{closed, closedWords}
+
+-- a call: of a step on a chunk, for scan with its guess, or of close
+pub data Call : Type 0 where
+  scan : ℕ → Bool → Call
+  settle level : ℕ → Call
+  close : Call
+
+-- a job and the words lent to it, between two calls
+pub record Held : Type 0 where
+  pub job : Job
+  pub words : List ℕ
+
+-- what a call answers, and what it hands back and leaves: the outcomes that the contracts of `index` give, on all inputs
+unfoldable pub answer : List ℕ → Call → Held → Answer
+answer text (scan k g) h = scanned (h .job) text (length (h .words)) k g .answer
+answer text (settle k) h = settled (h .job) text (h .words) k .answer
+answer text (level k) h = levelled (h .job) (length text) (length (h .words)) k .answer
+answer text close h = closed (h .job) (length text) (length (h .words)) .answer
+
+unfoldable pub act : List ℕ → Call → Held → Held
+act text (scan k g) h = record { job = scanned (h .job) text (length (h .words)) k g .job; words = scannedWords (h .job) text (h .words) k g }
+act text (settle k) h = record { job = settled (h .job) text (h .words) k .job; words = settledWords (h .job) text (h .words) k }
+act text (level k) h = record { job = levelled (h .job) (length text) (length (h .words)) k .job; words = levelledWords (h .job) text (h .words) k }
+act text close h = record { job = closed (h .job) (length text) (length (h .words)) .job; words = closedWords (h .job) (length text) (h .words) }
+
+-- calls one after the other
+unfoldable pub run : List ℕ → List Call → Held → Held
+run text [] h = h
+run text (c ∷ cs) h = run text cs (act text c h)
+
+-- an opening over the record, with any cuts and any first contents of the words
+unfoldable pub start : List ℕ → ℕ → List ℕ → List ℕ → Held
+start text levels cuts words = record { job = opened (length text) (length words) levels cuts .job; words = words }
+
+-- what an accepted opening and any calls lead to
+pub record Reached (text : List ℕ) (levels : ℕ) (h : Held) : Type 0 where
+  pub cuts : List ℕ
+  pub words : List ℕ
+  pub calls : List Call
+  pub accepted : opening (length text) (length words) levels cuts ≡ Done
+  pub leads : run text calls (start text levels cuts words) ≡ h
+
+-- an answer of close that ends the job
+pub data Ends : Answer → Type 0 where
+  done : Ends Done
+  fault : (f : Fault) → Ends (Faulty f)
+
+-- a run that was closed: the answer of its close, and the words that it left
+pub record ClosedRun (text : List ℕ) (levels : ℕ) (a : Answer) (after : List ℕ) : Type 0 where
+  pub before : Held
+  pub reached : Reached text levels before
+  pub answers : answer text close before ≡ a
+  pub ends : Ends a
+  pub leaves : act text close before .words ≡ after
