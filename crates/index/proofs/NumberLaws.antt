@@ -1,18 +1,18 @@
 -- The numbers of opening, of every step, of close and of asking, 0 to 16: each exactly when its condition holds and no earlier one does;
 -- and what a refused call leaves. By the laws of any list of checks.
-use mathlib.Core.Path.{_≡_, refl, sym, ap, _∙_}
+use mathlib.Core.Path.{_≡_, refl, sym, _∙_}
 use mathlib.Core.Logic.{_↔_}
 use mathlib.Core.Bool.{Bool, true, false, _&&_, and-false}
 use mathlib.Core.List.{List, [], _∷_}
-use Prim.Native.Nat.{ℕ, zero, suc, _+_, _≤_, _<_}
+use Prim.Native.Nat.{ℕ, _≤_, _<_}
 use native.Mathlib.Omega.{arith}
 use lib.Dec.{ltb}
 use lib.ListN.{length, replicate}
-use borrow.Author.Tests.{ltb-true, ltb-false, lt-ltb, le-ltb}
+use borrow.Author.Tests.{ltb-true, ltb-false}
 use Rattle.rules.specs.Word.{pick}
 use Rattle.index.specs.declared.Fault.{Fault}
 use Rattle.index.specs.declared.Refusal.{Refusal}
-use Rattle.index.specs.declared.Refusal.the-variants.{BadCut, IsClosed, OtherLength, Early}
+use Rattle.index.specs.declared.Refusal.the-variants.{IsClosed, OtherLength, Early}
 use Rattle.index.specs.declared.Answer.{Answer}
 use Rattle.index.specs.declared.Answer.the-variants.{Done, Refused, Faulty}
 use Rattle.index.specs.declared.State.{State}
@@ -22,7 +22,7 @@ use Rattle.index.specs.declared.Job.{Job}
 use Rattle.index.specs.Answers.{refusalNumber, numberOf, placeOf, askedNumber}
 use Rattle.index.specs.Numbers.{Refuses, numbers, Exactly}
 use Rattle.index.specs.Checks.{chunksOf, withState, isStopped, sameLengths, stepChecks, refusal, asked}
-use Rattle.index.specs.Opening.{badCut, first, firstBad, openChecks, opening, noJob, opened}
+use Rattle.index.specs.Opening.{badCut, firstBad, openChecks, opening, noJob, opened}
 use Rattle.index.specs.Closing.{allLevelled, closeChecks, faultAgain, closing, unlessRefused, closed, closedWords}
 use Rattle.index.proofs.AnswerLaws.{refusal-range, done-other, fault-other, refused-is, refused-leaves, hit, exactly}
 use Rattle.index.proofs.OpenLaws.{first-holds, first-before}

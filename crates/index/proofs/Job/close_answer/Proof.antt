@@ -1,6 +1,6 @@
 -- `Job::close_answer` meets its contract: each way back by the state and the tests that led there.
 use borrow.Author.Needs.{needs}
-use mathlib.Core.Path.{_≡_, sym, _∙_}
+use mathlib.Core.Path.{sym, _∙_}
 use borrow.Author.Tests.{not-true, not-false}
 use Rattle.index.proofs.CloseLaws.{closing-closed, stopped-other, stopped-fault, open-other, open-early, open-done}
 use Rattle.index.proofs.Job.close_answer.Statement.{statement}

@@ -1,6 +1,6 @@
 -- `Job::open` meets its contract: its answer says what it hands back.
 use borrow.Author.Needs.{needs}
-use mathlib.Core.Path.{_≡_, sym, _∙_}
+use mathlib.Core.Path.{sym, _∙_}
 use lib.ListN.{length}
 use Rattle.index.proofs.OpenLaws.{opens, open-refused, open-done}
 use Rattle.index.proofs.Job.open.Statement.{statement}
