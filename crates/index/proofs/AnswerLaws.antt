@@ -1,6 +1,6 @@
 -- Answers, whatever the operation: a list of checks gives each refusal's number exactly when its condition holds and no earlier one does.
 use mathlib.Core.Path.{_≡_, refl, sym, ap, _∙_}
-use mathlib.Core.Logic.{_⊎_, inl, inr}
+use mathlib.Core.Logic.{_⊎_, inl, inr, ⊎-map}
 use mathlib.Core.Bool.{Bool, true, false, _&&_}
 use mathlib.Core.List.{List, [], _∷_}
 use Prim.Native.Nat.{ℕ, zero, suc, _≤_, _<_}
@@ -10,6 +10,7 @@ use borrow.Author.Tests.{ltb-true, ltb-false}
 use lib.ListN.{length, getD}
 use types.Run.{OneOf, miss}
 use denote.Enum.Declared.{tagOf}
+use Rattle.rules.specs.Word.{pick}
 use Rattle.index.specs.declared.Fault.{Fault}
 use Rattle.index.specs.declared.Fault.the-variants.{Closer, Opener, InString, InBracket}
 use Rattle.index.specs.declared.Refusal.{Refusal}
@@ -84,6 +85,16 @@ no-hit (c ∷ later) a f =
     let z : c .0 ≡ false = f 0 (omega arith) in
     simp z (no-hit later a (λ e k. f (suc e) (omega arith)))
 
+-- what an accepted call answers, put in the place of Done
+pub then-checked : (checks : List Check) (a : Answer) → onDone (checked checks Done) a (checked checks Done) ≡ checked checks a
+then-checked [] a = refl
+then-checked (c ∷ later) a = go (c .0) (then-checked later a)
+  where
+    go : (b : Bool) → onDone (checked later Done) a (checked later Done) ≡ checked later a
+        → onDone (pick b (Refused (c .1)) (checked later Done)) a (pick b (Refused (c .1)) (checked later Done)) ≡ pick b (Refused (c .1)) (checked later a)
+    go true e = refl
+    go false e = e
+
 -- either no condition holds, or there is a first that does
 abbrev Decided : List Check → Type 0
 Decided checks = NoneHolds checks ⊎ ((i : ℕ) × ((i < length checks) × First checks i))
@@ -142,6 +153,7 @@ exactly checks a t other =
     record {
       refused = λ i l. (λ e. first i l e (decided checks), λ f. ap numberOf (hit checks a i l f));
       accepted = (λ e. none e (decided checks), λ f. ap numberOf (no-hit checks a f));
+      no-other = ⊎-map (λ f. ap numberOf (no-hit checks a f)) (λ f. (f .0, (f .1 .0, ap numberOf (hit checks a (f .0) (f .1 .0) (f .1 .1))))) (decided checks);
     }
   where
     first : (i : ℕ) → i < length checks → numberOf (checked checks a) ≡ number checks i → Decided checks → First checks i

@@ -12,7 +12,7 @@ use Rattle.index.specs.declared.Fault.{Fault}
 use Rattle.index.specs.declared.Refusal.{Refusal}
 use Rattle.index.specs.declared.Refusal.the-variants.{IsClosed, IsStopped, OtherLength, NoChunk, Taken, Early}
 use Rattle.index.specs.declared.Answer.{Answer}
-use Rattle.index.specs.declared.Answer.the-variants.{Done, Refused, Faulty}
+use Rattle.index.specs.declared.Answer.the-variants.{Done, Refused}
 use Rattle.index.specs.declared.State.{State}
 use Rattle.index.specs.declared.State.the-variants.{Open, Stopped, Closed}
 use Rattle.index.specs.declared.Step.{Step}

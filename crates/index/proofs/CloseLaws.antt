@@ -1,6 +1,6 @@
 -- Close, test by test.
 use mathlib.Core.Path.{_≡_, refl}
-use mathlib.Core.Bool.{Bool, true, false, not, _&&_}
+use mathlib.Core.Bool.{Bool, true, false, _&&_}
 use mathlib.Core.List.{List}
 use Prim.Native.Nat.{ℕ, zero, suc, _+_, _<_}
 use native.Mathlib.Omega.{arith}
@@ -66,18 +66,18 @@ module _ (j : Job) (n w : ℕ) where
     stopped-fault a = let t = state-stopped _ f e in simp (t .0, a, t .1) (again _ _ e)
 
   module _ (e : j .state ≡ Open) where
-    pub open-other : sameLengths j n w ≡ false → closing j n w ≡ Refused OtherLength
+    pub closing-other : sameLengths j n w ≡ false → closing j n w ≡ Refused OtherLength
     unfolding closing closeChecks
-    open-other a = let t = state-open _ e in simp (t .0, a)
+    closing-other a = let t = state-open _ e in simp (t .0, a)
 
     module _ (a : sameLengths j n w ≡ true) where
-      pub open-early : allLevelled j ≡ false → closing j n w ≡ Refused Early
+      pub closing-early : allLevelled j ≡ false → closing j n w ≡ Refused Early
       unfolding closing closeChecks
-      open-early b = let t = state-open _ e in simp (t .0, a, t .1, b)
+      closing-early b = let t = state-open _ e in simp (t .0, a, t .1, b)
 
-      pub open-done : allLevelled j ≡ true → closing j n w ≡ Done
+      pub closing-done : allLevelled j ≡ true → closing j n w ≡ Done
       unfolding closing closeChecks
-      open-done b = let t = state-open _ e in simp (t .0, a, t .1, b) (again _ _ e)
+      closing-done b = let t = state-open _ e in simp (t .0, a, t .1, b) (again _ _ e)
 
 -- ---- what it hands back and leaves, by its answer
 

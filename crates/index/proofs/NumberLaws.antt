@@ -1,18 +1,18 @@
 -- The numbers of opening, of every step, of close and of asking, 0 to 16: each exactly when its condition holds and no earlier one does;
 -- and what a refused call leaves. By the laws of any list of checks.
-use mathlib.Core.Path.{_≡_, refl, sym, ap, _∙_}
+use mathlib.Core.Path.{_≡_, refl, sym, _∙_}
 use mathlib.Core.Logic.{_↔_}
 use mathlib.Core.Bool.{Bool, true, false, _&&_, and-false}
 use mathlib.Core.List.{List, [], _∷_}
-use Prim.Native.Nat.{ℕ, zero, suc, _+_, _≤_, _<_}
+use Prim.Native.Nat.{ℕ, _≤_, _<_}
 use native.Mathlib.Omega.{arith}
 use lib.Dec.{ltb}
 use lib.ListN.{length, replicate}
-use borrow.Author.Tests.{ltb-true, ltb-false, lt-ltb, le-ltb}
+use borrow.Author.Tests.{ltb-true, ltb-false}
 use Rattle.rules.specs.Word.{pick}
 use Rattle.index.specs.declared.Fault.{Fault}
 use Rattle.index.specs.declared.Refusal.{Refusal}
-use Rattle.index.specs.declared.Refusal.the-variants.{BadCut, IsClosed, OtherLength, Early}
+use Rattle.index.specs.declared.Refusal.the-variants.{IsClosed, OtherLength, Early}
 use Rattle.index.specs.declared.Answer.{Answer}
 use Rattle.index.specs.declared.Answer.the-variants.{Done, Refused, Faulty}
 use Rattle.index.specs.declared.State.{State}
@@ -22,11 +22,11 @@ use Rattle.index.specs.declared.Job.{Job}
 use Rattle.index.specs.Answers.{refusalNumber, numberOf, placeOf, askedNumber}
 use Rattle.index.specs.Numbers.{Refuses, numbers, Exactly}
 use Rattle.index.specs.Checks.{chunksOf, withState, isStopped, sameLengths, stepChecks, refusal, asked}
-use Rattle.index.specs.Opening.{badCut, first, firstBad, openChecks, opening, noJob, opened}
+use Rattle.index.specs.Opening.{badCut, firstBad, openChecks, opening, noJob, opened}
 use Rattle.index.specs.Closing.{allLevelled, closeChecks, faultAgain, closing, unlessRefused, closed, closedWords}
 use Rattle.index.proofs.AnswerLaws.{refusal-range, done-other, fault-other, refused-is, refused-leaves, hit, exactly}
 use Rattle.index.proofs.OpenLaws.{first-holds, first-before}
-use Rattle.index.proofs.CloseLaws.{closing-closed, stopped-other, stopped-fault, open-other, open-early, open-done, close-is}
+use Rattle.index.proofs.CloseLaws.{closing-closed, stopped-other, stopped-fault, closing-other, closing-early, closing-done, close-is}
 
 -- ---- opening
 
@@ -139,9 +139,9 @@ way j n w = go (j .state) refl (sameLengths j n w) refl (allLevelled j) refl
     go Closed e b p d q = refuses IsClosed (closing-closed j n w e) (closed-stops _ _ e)
     go (Stopped f) e true p d q = answers f e p
     go (Stopped f) e false p d q = refuses OtherLength (stopped-other j n w f e p) (rw p (and-false (isStopped (j .state))))
-    go Open e false p d q = refuses OtherLength (open-other j n w e p) (rw p (and-false (isStopped (j .state))))
+    go Open e false p d q = refuses OtherLength (closing-other j n w e p) (rw p (and-false (isStopped (j .state))))
     go Open e true p true q = finishes e p q
-    go Open e true p false q = refuses Early (open-early j n w e p q) (open-stops _ _ e)
+    go Open e true p false q = refuses Early (closing-early j n w e p q) (open-stops _ _ e)
 
 stopped-stops : (s : State) (b : Bool) (f : Fault) → s ≡ Stopped f → b ≡ true → (isStopped s && b) ≡ true
 stopped-stops s b f e p = rw (e, p)
@@ -155,12 +155,12 @@ module _ (j : Job) (n : ℕ) (words : List ℕ) where
       go : Way j n (length words) → closing j n (length words) ≡ Faulty f → (j .state ≡ Stopped f) × (sameLengths j n (length words) ≡ true)
       go (refuses r e p) h = let z : _≡_ {A = ℕ} 0 1 = cc in absurd (omega arith)
       go (answers g e p) h = let q = stopped-fault j n (length words) g e p in (cc, p)
-      go (finishes e p q) h = let d = open-done j n (length words) e p q in let z : _≡_ {A = ℕ} 0 1 = cc in absurd (omega arith)
+      go (finishes e p q) h = let d = closing-done j n (length words) e p q in let z : _≡_ {A = ℕ} 0 1 = cc in absurd (omega arith)
 
   -- and 0 exactly by that of an open job whose chunks are all levelled
   pub close-done : (closed j n (length words) .answer ≡ Done) ↔ ((j .state ≡ Open) × ((sameLengths j n (length words) ≡ true) × (allLevelled j ≡ true)))
   unfolding closed
-  close-done = (λ h. go (way j n (length words)) h, λ h. open-done j n (length words) (h .0) (h .1 .0) (h .1 .1))
+  close-done = (λ h. go (way j n (length words)) h, λ h. closing-done j n (length words) (h .0) (h .1 .0) (h .1 .1))
     where
       go : Way j n (length words) → closing j n (length words) ≡ Done → (j .state ≡ Open) × ((sameLengths j n (length words) ≡ true) × (allLevelled j ≡ true))
       go (refuses r e p) h = let z : _≡_ {A = ℕ} 0 1 = cc in absurd (omega arith)
@@ -174,7 +174,7 @@ module _ (j : Job) (n : ℕ) (words : List ℕ) where
       go : Way j n (length words) → closedWords j n words ≡ pick (isStopped (j .state) && sameLengths j n (length words)) (replicate (length words) 0) words
       go (refuses r e p) = sym (close-is j n words (Refused r) e .1) ∙ rw p
       go (answers f e p) = sym (close-is j n words (Faulty f) (stopped-fault j n (length words) f e p) .1) ∙ rw (stopped-stops (j .state) (sameLengths j n (length words)) f e p)
-      go (finishes e p q) = sym (close-is j n words Done (open-done j n (length words) e p q) .1) ∙ rw (open-stops (j .state) (sameLengths j n (length words)) e)
+      go (finishes e p q) = sym (close-is j n words Done (closing-done j n (length words) e p q) .1) ∙ rw (open-stops (j .state) (sameLengths j n (length words)) e)
 
   -- a refused close changes neither job nor words
   pub close-refused : Refuses (closed j n (length words) .answer) → (closed j n (length words) .job ≡ j) × (closedWords j n words ≡ words)

@@ -1,5 +1,5 @@
 -- Opening, test by test: which cut is bad, the first of them, and what a call is refused with.
-use mathlib.Core.Path.{_≡_, refl, sym, ap, _∙_}
+use mathlib.Core.Path.{_≡_, refl, sym, ap}
 use mathlib.Core.Bool.{Bool, true, false, not, _||_, or-true}
 use mathlib.Core.List.{List, [], _∷_}
 use Prim.Native.Nat.{ℕ, zero, suc, _+_, _-_, _%_, _≤_, _<_}
@@ -131,7 +131,7 @@ module _ (n w levels : ℕ) (cuts : List ℕ) where
 
 -- ---- what an accepted opening knows, and what either hands back
 
-pub record Opens (n w levels : ℕ) (cuts : List ℕ) : Type 0 where
+pub record Openable (n w levels : ℕ) (cuts : List ℕ) : Type 0 where
   pub some : n ≡ 0 → ⊥
   pub short : n ≤ 16777216
   pub one : levels ≡ 0 → ⊥
@@ -141,9 +141,9 @@ pub record Opens (n w levels : ℕ) (cuts : List ℕ) : Type 0 where
   pub all-good : length cuts ≤ firstBad n cuts
 
 module _ (n w levels : ℕ) (cuts : List ℕ) where
-  pub opens : opening n w levels cuts ≡ Done → Opens n w levels cuts
+  pub openable : opening n w levels cuts ≡ Done → Openable n w levels cuts
   unfolding opening openChecks
-  opens h =
+  openable h =
       let c1 = not-refused (eqb n 0) Empty _ h in
       let c2 = not-refused (ltb 16777216 n) TooLong _ (c1 .1) in
       let c3 = not-refused (eqb levels 0 || ltb 16 levels) BadLevels _ (c2 .1) in

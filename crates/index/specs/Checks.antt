@@ -2,12 +2,11 @@
 use Prim.Native.Nat.{ℕ, zero, suc, _+_, _/_, min}
 use mathlib.Core.Bool.{Bool, true, false, not, _&&_}
 use mathlib.Core.List.{List, [], _∷_}
-use lib.ListN.{getD, set, replicate}
+use lib.ListN.{getD, set}
 use lib.IntN.{pos}
 use lib.Dec.{eqb, ltb, leb}
 use Rattle.rules.specs.Word.{pick}
 use Rattle.rules.specs.Layout.{widthOf, sizeOf}
-use Rattle.index.specs.declared.Fault.{Fault}
 use Rattle.index.specs.declared.Refusal.the-variants.{IsClosed, IsStopped, OtherLength, NoChunk, Taken, Early}
 use Rattle.index.specs.declared.Answer.{Answer}
 use Rattle.index.specs.declared.Answer.the-variants.{Done}
@@ -15,7 +14,6 @@ use Rattle.index.specs.declared.State.{State}
 use Rattle.index.specs.declared.State.the-variants.{Open, Stopped, Closed}
 use Rattle.index.specs.declared.Step.{Step}
 use Rattle.index.specs.declared.Step.the-variants.{Scan, Settle, Level}
-use Rattle.index.specs.declared.Kept.{Kept}
 use Rattle.index.specs.declared.Chunk.{Chunk}
 use Rattle.index.specs.declared.Job.{Job}
 use Rattle.index.specs.declared.Had.the-variants as had

@@ -1,7 +1,7 @@
 -- How the laws speak of numbers: "each number comes only under its condition", in the order of the checks.
 use Prim.Native.Nat.{ℕ, _≤_, _<_}
 use mathlib.Core.Path.{_≡_}
-use mathlib.Core.Logic.{_↔_}
+use mathlib.Core.Logic.{_↔_, _⊎_}
 use mathlib.Core.Bool.{Bool, true, false}
 use mathlib.Core.List.{List, [], _∷_}
 use lib.ListN.{length, getD}
@@ -34,7 +34,9 @@ pub record First (checks : List Check) (i : ℕ) : Type 0 where
 abbrev pub NoneHolds : List Check → Type 0
 NoneHolds checks = (e : ℕ) → e < length checks → condition checks e ≡ false
 
--- of an answer by these checks, and `otherwise` without a refusal: each number exactly when its condition holds and no earlier one does
+-- of an answer by these checks, and `otherwise` without a refusal: each number exactly when its condition holds and no earlier one
+-- does, and no other number
 pub record Exactly (checks : List Check) (otherwise a : Answer) : Type 0 where
   pub refused : (i : ℕ) → i < length checks → (numberOf a ≡ number checks i) ↔ First checks i
   pub accepted : (numberOf a ≡ numberOf otherwise) ↔ NoneHolds checks
+  pub no-other : (numberOf a ≡ numberOf otherwise) ⊎ ((i : ℕ) × ((i < length checks) × (numberOf a ≡ number checks i)))

@@ -1,5 +1,4 @@
 -- `Job::chunks` meets its contract.
-use borrow.Author.Needs.{needs}
 use native.Mathlib.Omega.{arith}
 use Rattle.index.specs.Checks.{chunksOf}
 use Rattle.index.proofs.Job.chunks.Statement.{statement}

@@ -1,6 +1,6 @@
 -- `Job::close` meets its contract: its answer says what it hands back and leaves.
 use borrow.Author.Needs.{needs}
-use mathlib.Core.Path.{_≡_, sym, _∙_}
+use mathlib.Core.Path.{sym, _∙_}
 use lib.ListN.{length}
 use Rattle.index.specs.declared.Answer.the-variants.{Done, Refused, Faulty}
 use Rattle.index.proofs.CloseLaws.{close-is}

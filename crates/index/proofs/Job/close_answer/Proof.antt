@@ -1,8 +1,8 @@
 -- `Job::close_answer` meets its contract: each way back by the state and the tests that led there.
 use borrow.Author.Needs.{needs}
-use mathlib.Core.Path.{_≡_, sym, _∙_}
+use mathlib.Core.Path.{sym, _∙_}
 use borrow.Author.Tests.{not-true, not-false}
-use Rattle.index.proofs.CloseLaws.{closing-closed, stopped-other, stopped-fault, open-other, open-early, open-done}
+use Rattle.index.proofs.CloseLaws.{closing-closed, stopped-other, stopped-fault, closing-other, closing-early, closing-done}
 use Rattle.index.proofs.Job.close_answer.Statement.{statement}
 use Rattle.index.proofs.Job.close_answer.Tie as tie
 
@@ -24,7 +24,7 @@ fits-requires-2 c κs = search needs
 returns : tie.Need-returns
 returns c =
     let a = c .before .before .before .before .args in
-    sym (open-other (a .self) (a .n) (a .w) (c .before .before .enum-told2 .given .1) (sym (c .before .fits3 .ensures) ∙ not-true _ (c .if2 .taken)))
+    sym (closing-other (a .self) (a .n) (a .w) (c .before .before .enum-told2 .given .1) (sym (c .before .fits3 .ensures) ∙ not-true _ (c .if2 .taken)))
 
 all-levelled-requires : tie.Need-all-levelled-requires
 all-levelled-requires c κs = search needs
@@ -45,13 +45,13 @@ returns-4 c =
 returns-5 : tie.Need-returns-5
 returns-5 c =
     let a = c .before .before .before .before .before .before .args in
-    sym (open-done (a .self) (a .n) (a .w) (c .before .before .before .before .enum-told2 .given .1) (sym (c .before .before .before .fits3 .ensures) ∙ not-false _ (c .before .before .if2 .left))
+    sym (closing-done (a .self) (a .n) (a .w) (c .before .before .before .before .enum-told2 .given .1) (sym (c .before .before .before .fits3 .ensures) ∙ not-false _ (c .before .before .if2 .left))
     (sym (c .before .all-levelled .ensures) ∙ c .if3 .taken))
 
 returns-6 : tie.Need-returns-6
 returns-6 c =
     let a = c .before .before .before .before .before .before .args in
-    sym (open-early (a .self) (a .n) (a .w) (c .before .before .before .before .enum-told2 .given .1) (sym (c .before .before .before .fits3 .ensures) ∙ not-false _ (c .before .before .if2 .left))
+    sym (closing-early (a .self) (a .n) (a .w) (c .before .before .before .before .enum-told2 .given .1) (sym (c .before .before .before .fits3 .ensures) ∙ not-false _ (c .before .before .if2 .left))
     (sym (c .before .all-levelled .ensures) ∙ c .if3 .left))
 
 pub close-answer-spec : {M : Type 1} → statement M

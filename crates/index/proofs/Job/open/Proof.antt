@@ -1,8 +1,8 @@
 -- `Job::open` meets its contract: its answer says what it hands back.
 use borrow.Author.Needs.{needs}
-use mathlib.Core.Path.{_≡_, sym, _∙_}
+use mathlib.Core.Path.{sym, _∙_}
 use lib.ListN.{length}
-use Rattle.index.proofs.OpenLaws.{opens, open-refused, open-done}
+use Rattle.index.proofs.OpenLaws.{openable, open-refused, open-done}
 use Rattle.index.proofs.Job.open.Statement.{statement}
 use Rattle.index.proofs.Job.open.Tie as tie
 
@@ -23,7 +23,7 @@ returns c =
 cut-chunks-requires : tie.Need-cut-chunks-requires
 cut-chunks-requires c κs =
     let a = c .before .before .before .before .before .before .args in
-    opens (length (a .text .now)) (length (a .words .now)) (a .levels) (a .cuts .now) (sym (c .before .before .open-answer .ensures) ∙ c .enum-told .given .1) .cuts-few
+    openable (length (a .text .now)) (length (a .words .now)) (a .levels) (a .cuts .now) (sym (c .before .before .open-answer .ensures) ∙ c .enum-told .given .1) .cuts-few
 
 add-t11 : tie.Need-add-t11
 add-t11 c = search needs

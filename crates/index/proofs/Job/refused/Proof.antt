@@ -1,6 +1,6 @@
 -- `Job::refused` meets its contract: each way back by the tests that led there.
 use borrow.Author.Needs.{needs}
-use mathlib.Core.Path.{_≡_, sym, _∙_}
+use mathlib.Core.Path.{sym, _∙_}
 use native.Mathlib.Omega.{arith}
 use borrow.Author.Tests.{not-true, not-false}
 use Rattle.index.proofs.CheckLaws.{chunks-few, if-closed, if-stopped, if-other, if-none, if-taken, if-early, if-done}

@@ -1,7 +1,6 @@
 -- `Job::span` meets its contract.
 use borrow.Author.Needs.{needs}
-use mathlib.Core.Path.{_≡_, sym, _∙_}
-use native.Mathlib.Omega.{arith}
+use mathlib.Core.Path.{sym, _∙_}
 use Rattle.index.specs.Checks.{spanOf}
 use Rattle.index.proofs.CheckLaws.{next-few}
 use Rattle.index.proofs.Job.span.Statement.{statement}

@@ -3,10 +3,10 @@ use borrow.Author.Needs.{needs}
 use mathlib.Core.Path.{_≡_, refl, sym, _∙_}
 use mathlib.Core.Bool.{true}
 use mathlib.Core.List.{List}
-use Prim.Native.Nat.{ℕ, _+_, _≤_, _<_, _-_, _%_}
+use Prim.Native.Nat.{ℕ, _≤_, _<_, _-_}
 use native.Mathlib.Nat.{sub-zero}
 use native.Mathlib.Numerals.{add-one}
-use lib.ListN.{length, getD}
+use lib.ListN.{length}
 use Rattle.index.specs.Opening.{badCut, first, firstBad}
 use Rattle.index.proofs.OpenLaws.{cutBefore, first-hit, first-miss, first-end, bad-part, bad-late, bad-low, good-cut}
 use Rattle.index.proofs.opening.first_bad.Statement.{statement}
