@@ -1,9 +1,9 @@
 -- Derivations with the blanks around values and names and not around structural characters: so a value's bytes have none at their ends.
 -- Every derivation of RFC 8259 has such a form, with the same bytes and the same nodes; by regrouping the blanks.
-use mathlib.Core.Path.{_≡_, refl, sym, ap, ap₂, _∙_}
+use mathlib.Core.Path.{_≡_, refl, ap, ap₂, _∙_}
 use mathlib.Core.List.{List, [], _∷_, _++_, append-assoc, append-nil}
 use Prim.Native.Nat.{ℕ, suc, _+_}
-use native.Mathlib.Nat.{add-zero, add-assoc}
+use native.Mathlib.Nat.{add-zero}
 use native.Mathlib.Omega.{arith}
 use lib.ListN.{length, length-append}
 use Rattle.json.specs.Grammar.{Ws, Structural, Number, Chars, quoted, Value, Object, Members, Member, Array, Values, JSON-text, ahead, behind, structural, value-bytes, object-bytes, members-bytes, member-bytes, array-bytes, values-bytes, text-bytes}

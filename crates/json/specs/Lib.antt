@@ -1,2 +1,3 @@
 pub mod Grammar
 pub mod Select
+pub mod Texts
