@@ -11,7 +11,7 @@ use borrow.Author.Tests.{ne-eqb, le-leb, lt-leb}
 use lib.Dec.{eqb, leb}
 use lib.ListN.{length, length-append}
 use Rattle.json.specs.Grammar.{In, Opt, Digits, Digits1, Hexdig, Blank, Ws, E, Minus, Sign, Exp, Frac, Int, Number, UTF8-char, Unescaped, Short, Char, Chars}
-use Rattle.json.proofs.Recogniser.{within, byte, blank, skip, digits, digits1, minus, sign, int, frac, exp, number, hexdig, short, escaped, wide, char, chars, string}
+use Rattle.json.proofs.Recogniser.{within, byte, blank, skip, digits, digits1, minus, sign, int, frac, exp, number, hexdig, short, escape, wide, char, chars, string}
 
 -- ---- tests
 
@@ -287,7 +287,7 @@ unescaped-here r (UTF8-char.utf8-4c {b} {c} {d} i j k) n =
     (byte-here 0x80 0xBF d r (omega arith)))
 
 char-here : {bs : List ℕ} {u : ℕ} (r : List ℕ) → Char bs u → Led bs r
-unfolding char escaped short
+unfolding char escape short
 char-here r (Char.unescaped c n) = unescaped-here r c n
 char-here r (Char.short {a} s) = record { first = 0x5C; rest = a ∷ []; whole = refl; open-still = refl; reads = rw (short-here s) refl }
 char-here r (Char.uXXXX {a} {b} {c} {d} h i j k) = record {

@@ -8,9 +8,9 @@ use native.Mathlib.Nat.{not-suc-le-zero}
 use native.Mathlib.Omega.{arith}
 use borrow.Author.Tests.{ne-eqb, eq-eqb}
 use lib.ListN.{length, length-append}
-use Rattle.json.specs.Grammar.{Opt, Ws, Minus, Int, Number, Chars, quoted, Text}
+use Rattle.json.specs.Grammar.{Opt, Ws, Minus, Int, Number, Chars, string-bytes, Text}
 use Rattle.json.proofs.Padded.{Bare, Pad, Elems, Entry, Entries, bare-bytes, pad-bytes, elems-bytes, entry-bytes, entries-bytes, padded-text, text-same-bytes}
-use Rattle.json.proofs.Recogniser.{Rest, within, byte, word, skip, digits, minus, number, string, Kind, a-value, elements, members, closed, next, rule, read, accepts}
+use Rattle.json.proofs.Recogniser.{Rest, within, byte, literal, skip, digits, minus, number, string, Kind, a-value, elements, members, closed, next, rule, read, accepts}
 use Rattle.json.proofs.CompleteTokens.{byte-here, Dark, skip-ws, Delimiter, Ends, low-delimiter, closer-delimiter, ws-ends, number-here, string-here}
 
 comma-delimiter : Delimiter 0x2C
@@ -163,20 +163,20 @@ object-rule : (f : Kind → List ℕ → Rest) (bs r : List ℕ) → closed 0x7D
 unfolding rule
 object-rule f bs r e = e
 
-word-rule : (f : Kind → List ℕ → Rest) (r : List ℕ)
+literal-rule : (f : Kind → List ℕ → Rest) (r : List ℕ)
     → (rule f a-value (bare-bytes Bare.false ++ r) ≡ some r) × (rule f a-value (bare-bytes Bare.null ++ r) ≡ some r) × (rule f a-value (bare-bytes Bare.true ++ r) ≡ some r)
-unfolding rule word byte within
-word-rule f r = (refl, refl, refl)
+unfolding rule literal byte within
+literal-rule f r = (refl, refl, refl)
 
-string-rule : (f : Kind → List ℕ → Rest) {raw us : List ℕ} (r : List ℕ) → Chars raw us → rule f a-value (quoted raw ++ r) ≡ some r
+string-rule : (f : Kind → List ℕ → Rest) {raw us : List ℕ} (r : List ℕ) → Chars raw us → rule f a-value (string-bytes raw ++ r) ≡ some r
 unfolding rule
 string-rule f {raw} r s = rw (append-assoc raw (0x22 ∷ []) r) (string-here r s)
 
 mutual
   value-reads : (v : Bare) (n : ℕ) (r : List ℕ) → length (bare-bytes v) + length (bare-bytes v) ≤ n → Ends r → read n a-value (bare-bytes v ++ r) ≡ some r
-  value-reads Bare.false n r h e = read-suc n a-value _ r (omega arith) (λ m q. word-rule (read m) r .0)
-  value-reads Bare.null n r h e = read-suc n a-value _ r (omega arith) (λ m q. word-rule (read m) r .1)
-  value-reads Bare.true n r h e = read-suc n a-value _ r (omega arith) (λ m q. word-rule (read m) r .2)
+  value-reads Bare.false n r h e = read-suc n a-value _ r (omega arith) (λ m q. literal-rule (read m) r .0)
+  value-reads Bare.null n r h e = read-suc n a-value _ r (omega arith) (λ m q. literal-rule (read m) r .1)
+  value-reads Bare.true n r h e = read-suc n a-value _ r (omega arith) (λ m q. literal-rule (read m) r .2)
   value-reads (Bare.num {bs} x) n r h e =
       let s = number-starts x in
       read-suc n a-value _ r (omega (arith, ap length (s .whole))) (λ m q. number-rule (read m) r x e)
@@ -222,7 +222,7 @@ mutual
   entry-passed : (x : Entry) (n : ℕ) (xs r : List ℕ) → length (entry-bytes x) + length (entry-bytes x) ≤ n → Dark xs → Ends xs
       → next 0x7D (read n members) xs ≡ some r → rule (read n) members (skip (entry-bytes x ++ xs)) ≡ some r
   entry-passed (Entry.entry {w} {raw} {us} {w′} b s b′ p) n xs r h d e k =
-      members-step b s b′ p n xs r (pad-passed p n xs (omega (arith, length-append (w ++ (quoted raw ++ w′)) (0x3A ∷ pad-bytes p))) d e) k
+      members-step b s b′ p n xs r (pad-passed p n xs (omega (arith, length-append (w ++ (string-bytes raw ++ w′)) (0x3A ∷ pad-bytes p))) d e) k
 
   entries-read : (es : Entries) (n : ℕ) (r : List ℕ) → suc (length (entries-bytes es) + length (entries-bytes es)) ≤ n
       → read n members (skip (entries-bytes es ++ (0x7D ∷ r))) ≡ some r

@@ -6,3 +6,9 @@ pub mod SoundValues
 pub mod CompleteTokens
 pub mod CompleteValues
 pub mod Trials
+pub mod Machine
+pub mod Derive
+pub mod Trace
+pub mod Stretches
+pub mod Verdicts
+pub mod Sample

@@ -6,7 +6,7 @@ use Prim.Native.Nat.{ℕ, suc, _+_}
 use native.Mathlib.Nat.{add-zero}
 use native.Mathlib.Omega.{arith}
 use lib.ListN.{length, length-append}
-use Rattle.json.specs.Grammar.{Ws, Structural, Number, Chars, quoted, Value, Object, Members, Member, Array, Values, JSON-text, ahead, behind, structural, value-bytes, object-bytes, members-bytes, member-bytes, array-bytes, values-bytes, text-bytes}
+use Rattle.json.specs.Grammar.{Ws, Structural, Number, Chars, string-bytes, Value, Object, Members, Member, Array, Values, JSON-text, ahead, behind, structural, value-bytes, object-bytes, members-bytes, member-bytes, array-bytes, values-bytes, text-bytes}
 use Rattle.json.specs.Select.{characters, Json, Items, nil, item, Fields, nil-fields, field, tree, object-tree, fields, with-member, array-tree, items, value-of}
 
 mutual
@@ -41,7 +41,7 @@ abbrev mutual
   bare-bytes Bare.null = value-bytes Value.null
   bare-bytes Bare.true = value-bytes Value.true
   bare-bytes (Bare.num {bs} n) = bs
-  bare-bytes (Bare.string {raw} s) = quoted raw
+  bare-bytes (Bare.string {raw} s) = string-bytes raw
   bare-bytes (Bare.empty-array {w} b) = 0x5B ∷ (w ++ (0x5D ∷ []))
   bare-bytes (Bare.array es) = 0x5B ∷ (elems-bytes es ++ (0x5D ∷ []))
   bare-bytes (Bare.empty-object {w} b) = 0x7B ∷ (w ++ (0x7D ∷ []))
@@ -55,7 +55,7 @@ abbrev mutual
   elems-bytes (Elems.more p es) = pad-bytes p ++ (0x2C ∷ elems-bytes es)
 
   pub entry-bytes : Entry → List ℕ
-  entry-bytes (Entry.entry {w} {raw} {us} {w′} b s b′ p) = (w ++ (quoted raw ++ w′)) ++ (0x3A ∷ pad-bytes p)
+  entry-bytes (Entry.entry {w} {raw} {us} {w′} b s b′ p) = (w ++ (string-bytes raw ++ w′)) ++ (0x3A ∷ pad-bytes p)
 
   pub entries-bytes : Entries → List ℕ
   entries-bytes (Entries.last-entry m) = entry-bytes m
@@ -68,7 +68,7 @@ abbrev mutual
   bare-tree a Bare.null = Json.scalar a (value-bytes Value.null)
   bare-tree a Bare.true = Json.scalar a (value-bytes Value.true)
   bare-tree a (Bare.num {bs} n) = Json.scalar a bs
-  bare-tree a (Bare.string {raw} s) = Json.scalar a (quoted raw)
+  bare-tree a (Bare.string {raw} s) = Json.scalar a (string-bytes raw)
   bare-tree a (Bare.empty-array {w} b) = Json.array a (0x5B ∷ (w ++ (0x5D ∷ []))) nil
   bare-tree a (Bare.array es) = Json.array a (0x5B ∷ (elems-bytes es ++ (0x5D ∷ []))) (pad-items (suc a) es)
   bare-tree a (Bare.empty-object {w} b) = Json.object a (0x7B ∷ (w ++ (0x7D ∷ []))) nil-fields
@@ -82,7 +82,7 @@ abbrev mutual
   pad-items a (Elems.more p es) = item (padded a p) (pad-items (suc (a + length (pad-bytes p))) es)
 
   pub with-entry : ℕ → Entry → Fields → Fields
-  with-entry a (Entry.entry {w} {raw} {us} {w′} b s b′ p) fs = field raw (characters us) (padded (suc (a + length (w ++ (quoted raw ++ w′)))) p) fs
+  with-entry a (Entry.entry {w} {raw} {us} {w′} b s b′ p) fs = field raw (characters us) (padded (suc (a + length (w ++ (string-bytes raw ++ w′)))) p) fs
 
   pub pad-fields : ℕ → Entries → Fields
   pad-fields a (Entries.last-entry m) = with-entry a m nil-fields
@@ -148,7 +148,7 @@ mutual
   same-bytes (Value.object o) = same-object o
   same-bytes (Value.array x) = same-array x
   same-bytes (Value.number {bs} n) = append-nil bs
-  same-bytes (Value.string {raw} s) = append-nil (quoted raw)
+  same-bytes (Value.string {raw} s) = append-nil (string-bytes raw)
 
   same-object : (o : Object) → pad-bytes (normal-object o) ≡ object-bytes o
   same-object (Object.no-members b e) = simp append-assoc
@@ -187,7 +187,7 @@ mutual
   same-tree a (Value.object o) = same-object-tree a o
   same-tree a (Value.array x) = same-array-tree a x
   same-tree a (Value.number {bs} n) = ap (λ (i : ℕ). Json.scalar i bs) (add-zero a)
-  same-tree a (Value.string {raw} s) = ap (λ (i : ℕ). Json.scalar i (quoted raw)) (add-zero a)
+  same-tree a (Value.string {raw} s) = ap (λ (i : ℕ). Json.scalar i (string-bytes raw)) (add-zero a)
 
   same-object-tree : (a : ℕ) (o : Object) → padded a (normal-object o) ≡ object-tree a o
   same-object-tree a (Object.no-members b e) = simp append-assoc
@@ -209,7 +209,7 @@ mutual
   same-field a (Member.member {raw} {us} c s v) {w} b b′ fs =
       ap (λ (t : Json). field raw (characters us) t fs)
       (extend-tree _ (normal v) (behind-ws s) b′ ∙ same-tree _ v
-      ∙ ap (λ (i : ℕ). tree i v) (omega (arith, structural-length s, length-append w (quoted raw ++ ahead s), length-append (quoted raw) (ahead s))))
+      ∙ ap (λ (i : ℕ). tree i v) (omega (arith, structural-length s, length-append w (string-bytes raw ++ ahead s), length-append (string-bytes raw) (ahead s))))
 
   same-array-tree : (a : ℕ) (x : Array) → padded a (normal-array x) ≡ array-tree a x
   same-array-tree a (Array.no-values b e) = simp append-assoc

@@ -23,9 +23,9 @@ byte lo hi [] = none
 byte lo hi (b ∷ bs) = pick (within lo hi b) (some bs) none
 
 -- those bytes
-unfoldable pub word : List ℕ → List ℕ → Rest
-word [] bs = some bs
-word (x ∷ xs) bs = then (byte x x bs) (word xs)
+unfoldable pub literal : List ℕ → List ℕ → Rest
+literal [] bs = some bs
+literal (x ∷ xs) bs = then (byte x x bs) (literal xs)
 
 unfoldable pub blank : ℕ → Bool
 blank b = eqb b 0x20 || (eqb b 0x09 || (eqb b 0x0A || eqb b 0x0D))
@@ -76,9 +76,9 @@ unfoldable pub short : ℕ → Bool
 short b = eqb b 0x22 || (eqb b 0x5C || (eqb b 0x2F || (eqb b 0x62 || (eqb b 0x66 || (eqb b 0x6E || (eqb b 0x72 || eqb b 0x74))))))
 
 -- behind the escape
-unfoldable pub escaped : List ℕ → Rest
-escaped [] = none
-escaped (b ∷ bs) = pick (short b) (some bs) (pick (eqb b 0x75) (then (hexdig bs) (λ r. then (hexdig r) (λ r. then (hexdig r) hexdig))) none)
+unfoldable pub escape : List ℕ → Rest
+escape [] = none
+escape (b ∷ bs) = pick (short b) (some bs) (pick (eqb b 0x75) (then (hexdig bs) (λ r. then (hexdig r) (λ r. then (hexdig r) hexdig))) none)
 
 abbrev pub tail : List ℕ → Rest
 tail = byte 0x80 0xBF
@@ -98,7 +98,7 @@ wide b bs =
 
 -- a character that begins with a byte other than the quotation mark
 unfoldable pub char : ℕ → List ℕ → Rest
-char b bs = pick (eqb b 0x5C) (escaped bs) (pick (within 0x20 0x7F b) (some bs) (wide b bs))
+char b bs = pick (eqb b 0x5C) (escape bs) (pick (within 0x20 0x7F b) (some bs) (wide b bs))
 
 -- characters and the quotation mark behind them, so many at most
 unfoldable pub chars : ℕ → List ℕ → Rest
@@ -133,9 +133,9 @@ rule f a-value (b ∷ bs) =
     let quoted = string bs in
     let other = number (b ∷ bs) in
     pick (eqb b 0x5B) array (pick (eqb b 0x7B) object (pick (eqb b 0x22) quoted
-    (pick (eqb b 0x66) (word (0x61 ∷ 0x6C ∷ 0x73 ∷ 0x65 ∷ []) bs)
-    (pick (eqb b 0x6E) (word (0x75 ∷ 0x6C ∷ 0x6C ∷ []) bs)
-    (pick (eqb b 0x74) (word (0x72 ∷ 0x75 ∷ 0x65 ∷ []) bs) other)))))
+    (pick (eqb b 0x66) (literal (0x61 ∷ 0x6C ∷ 0x73 ∷ 0x65 ∷ []) bs)
+    (pick (eqb b 0x6E) (literal (0x75 ∷ 0x6C ∷ 0x6C ∷ []) bs)
+    (pick (eqb b 0x74) (literal (0x72 ∷ 0x75 ∷ 0x65 ∷ []) bs) other)))))
 rule f elements bs = then (f a-value bs) (λ r. next 0x5D (f elements) (skip r))
 rule f members bs =
     then (byte 0x22 0x22 bs) (λ r. then (string r) (λ r. then (byte 0x3A 0x3A (skip r)) (λ r.

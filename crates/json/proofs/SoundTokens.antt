@@ -10,7 +10,7 @@ use borrow.Author.Tests.{eqb-true, eqb-false, leb-true}
 use lib.Dec.{eqb, leb}
 use Rattle.rules.specs.Word.{pick}
 use Rattle.json.specs.Grammar.{In, Opt, Digits, Digits1, Hexdig, Blank, Ws, E, Minus, Sign, Exp, Frac, Int, Number, UTF8-char, Unescaped, Short, Char, Chars}
-use Rattle.json.proofs.Recogniser.{Rest, then, within, byte, word, blank, skip, digits, digits1, minus, sign, int, frac, exp, number, hexdig, short, escaped, tail, wide, char, chars}
+use Rattle.json.proofs.Recogniser.{Rest, then, within, byte, literal, blank, skip, digits, digits1, minus, sign, int, frac, exp, number, hexdig, short, escape, tail, wide, char, chars}
 
 pub ahead : (b : ℕ) {xs ys : List ℕ} → xs ≡ ys → b ∷ xs ≡ b ∷ ys
 ahead b = ap (λ (l : List ℕ). b ∷ l)
@@ -65,11 +65,11 @@ byte-sound lo hi (b ∷ bs) {r} e = by-test (within lo hi b) (some bs) none e (�
 pub exactly : (c : ℕ) (bs : List ℕ) {r : List ℕ} → byte c c bs ≡ some r → bs ≡ c ∷ r
 exactly c bs {r} e = let o = byte-sound c c bs e in o .whole ∙ ap (λ (x : ℕ). x ∷ r) (omega (arith, o .is .low, o .is .high))
 
-pub word-sound : (xs bs : List ℕ) {r : List ℕ} → word xs bs ≡ some r → bs ≡ xs ++ r
-unfolding word
-word-sound [] bs e = cc
-word-sound (x ∷ xs) bs e =
-    by-then (byte x x bs) (word xs) e (λ m h k. exactly x bs h ∙ ahead x (word-sound xs m k))
+pub literal-sound : (xs bs : List ℕ) {r : List ℕ} → literal xs bs ≡ some r → bs ≡ xs ++ r
+unfolding literal
+literal-sound [] bs e = cc
+literal-sound (x ∷ xs) bs e =
+    by-then (byte x x bs) (literal xs) e (λ m h k. exactly x bs h ∙ ahead x (literal-sound xs m k))
 
 blank-sound : (b : ℕ) → blank b ≡ true → Blank b
 unfolding blank
@@ -220,10 +220,10 @@ A-char bs = (u : ℕ) × Char bs u
 large : {bs : List ℕ} {u : ℕ} → UTF8-char bs u → In 0x5D 0x10FFFF u → A-char bs
 large {u} c h = (u, Char.unescaped c (Unescaped.high h))
 
-escaped-sound : (bs : List ℕ) {r : List ℕ} → escaped bs ≡ some r → Reads A-char (0x5C ∷ bs) r
-unfolding escaped
-escaped-sound [] e = nothing e
-escaped-sound (b ∷ bs) {r} e =
+escape-sound : (bs : List ℕ) {r : List ℕ} → escape bs ≡ some r → Reads A-char (0x5C ∷ bs) r
+unfolding escape
+escape-sound [] e = nothing e
+escape-sound (b ∷ bs) {r} e =
     by-test (short b) (some bs) _ e
     (λ h k. let q : bs ≡ r = cc in record { part = 0x5C ∷ b ∷ []; is = (_, Char.short (short-sound b h .1)); whole = ahead 0x5C (ahead b q) })
     λ _ e. by-test (eqb b 0x75) _ none e
@@ -294,7 +294,7 @@ plain-char b h f g = low (decLe b 0x21) (decLe b 0x5B)
 char-sound : (b : ℕ) (bs : List ℕ) {r : List ℕ} → eqb b 0x22 ≡ false → char b bs ≡ some r → Reads A-char (b ∷ bs) r
 unfolding char
 char-sound b bs {r} q e =
-    by-test (eqb b 0x5C) (escaped bs) _ e (λ h k. rw (eqb-true b 0x5C h) (escaped-sound bs k))
+    by-test (eqb b 0x5C) (escape bs) _ e (λ h k. rw (eqb-true b 0x5C h) (escape-sound bs k))
     λ n e. by-test (within 0x20 0x7F b) (some bs) _ e
     (λ h k.
     let i = within-in 0x20 0x7F b h in

@@ -10,7 +10,7 @@ use lib.Dec.{eqb}
 use lib.ListN.{length}
 use Rattle.json.specs.Grammar.{Ws, Structural, Value, Object, Members, Member, Array, Values, JSON-text, Text, value-bytes, members-bytes, values-bytes}
 use Rattle.json.proofs.Recogniser.{Rest, then, byte, skip, number, string, Kind, a-value, elements, members, closed, next, rule, read, ended, accepts}
-use Rattle.json.proofs.SoundTokens.{ahead, before, nothing, by-test, by-then, exactly, word-sound, skip-sound, number-sound, chars-sound}
+use Rattle.json.proofs.SoundTokens.{ahead, before, nothing, by-test, by-then, exactly, literal-sound, skip-sound, number-sound, chars-sound}
 
 record A-value (bs r : List ℕ) : Type 0 where
   value : Value
@@ -87,9 +87,9 @@ module _ (f : Kind → List ℕ → Rest) (ih : (k : Kind) (bs r : List ℕ) →
       (λ h k.
       let s = chars-sound (length bs) bs k in
       record { value = Value.string (s .is); whole = ap (λ (x : ℕ). x ∷ bs) (eqb-true b 0x22 h) ∙ ahead 0x22 (s .whole ∙ simp append-assoc) })
-      λ _ e. by-test (eqb b 0x66) _ _ e (λ h k. record { value = Value.false; whole = ap₂ {C = List ℕ} _∷_ (eqb-true b 0x66 h) (word-sound (0x61 ∷ 0x6C ∷ 0x73 ∷ 0x65 ∷ []) bs k) })
-      λ _ e. by-test (eqb b 0x6E) _ _ e (λ h k. record { value = Value.null; whole = ap₂ {C = List ℕ} _∷_ (eqb-true b 0x6E h) (word-sound (0x75 ∷ 0x6C ∷ 0x6C ∷ []) bs k) })
-      λ _ e. by-test (eqb b 0x74) _ _ e (λ h k. record { value = Value.true; whole = ap₂ {C = List ℕ} _∷_ (eqb-true b 0x74 h) (word-sound (0x72 ∷ 0x75 ∷ 0x65 ∷ []) bs k) })
+      λ _ e. by-test (eqb b 0x66) _ _ e (λ h k. record { value = Value.false; whole = ap₂ {C = List ℕ} _∷_ (eqb-true b 0x66 h) (literal-sound (0x61 ∷ 0x6C ∷ 0x73 ∷ 0x65 ∷ []) bs k) })
+      λ _ e. by-test (eqb b 0x6E) _ _ e (λ h k. record { value = Value.null; whole = ap₂ {C = List ℕ} _∷_ (eqb-true b 0x6E h) (literal-sound (0x75 ∷ 0x6C ∷ 0x6C ∷ []) bs k) })
+      λ _ e. by-test (eqb b 0x74) _ _ e (λ h k. record { value = Value.true; whole = ap₂ {C = List ℕ} _∷_ (eqb-true b 0x74 h) (literal-sound (0x72 ∷ 0x75 ∷ 0x65 ∷ []) bs k) })
       λ _ k. let n = number-sound (b ∷ bs) k in record { value = Value.number (n .is); whole = n .whole }
 
   elements-sound : (bs r : List ℕ) → rule f elements bs ≡ some r → Elements bs r

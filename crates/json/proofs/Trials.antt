@@ -6,7 +6,7 @@ use Prim.Native.Nat.{ℕ}
 use native.Mathlib.Omega.{arith}
 use lib.Dec.{T}
 use Rattle.json.specs.Texts.{Row, accepted, refused, bytes, Meant, table}
-use Rattle.json.proofs.Recogniser.{within, byte, word, blank, skip, digits, digits1, minus, sign, int, frac, exp, number, hexdig, short, escaped, wide, char, chars, string, closed, next, rule, read, accepts}
+use Rattle.json.proofs.Recogniser.{within, byte, literal, blank, skip, digits, digits1, minus, sign, int, frac, exp, number, hexdig, short, escape, wide, char, chars, string, closed, next, rule, read, accepts}
 use Rattle.json.proofs.SoundValues.{accepted-text}
 use Rattle.json.proofs.CompleteValues.{text-accepted}
 
@@ -36,7 +36,7 @@ meant (refused s ∷ rows) t =
     no false e f = let z : _≡_ {A = ℕ} 0 1 = cc in omega arith
 
 tried : T (every table)
-unfolding every right table within byte word blank skip digits digits1 minus sign int frac exp number hexdig short escaped wide char chars string closed next rule read accepts
+unfolding every right table within byte literal blank skip digits digits1 minus sign int frac exp number hexdig short escape wide char chars string closed next rule read accepts
 tried = tt
 
 -- each row of the table is as it says

@@ -164,8 +164,8 @@ pub data Chars : List ℕ → List ℕ → Type 0 where
   char : {b bs us : List ℕ} {u : ℕ} → Char b u → Chars bs us → Chars (b ++ bs) (u ∷ us)
 
 -- string = quotation-mark *char quotation-mark, quotation-mark = %x22
-abbrev pub quoted : List ℕ → List ℕ
-quoted raw = 0x22 ∷ (raw ++ (0x22 ∷ []))
+abbrev pub string-bytes : List ℕ → List ℕ
+string-bytes raw = 0x22 ∷ (raw ++ (0x22 ∷ []))
 
 -- ---- sections 3, 4 and 5: values, objects, arrays. A derivation is a tree
 
@@ -226,7 +226,7 @@ abbrev mutual
   value-bytes (Value.object o) = object-bytes o
   value-bytes (Value.array a) = array-bytes a
   value-bytes (Value.number {bs} n) = bs
-  value-bytes (Value.string {raw} s) = quoted raw
+  value-bytes (Value.string {raw} s) = string-bytes raw
 
   pub object-bytes : Object → List ℕ
   object-bytes (Object.no-members b e) = structural b ++ structural e
@@ -237,7 +237,7 @@ abbrev mutual
   members-bytes (Members.more-members m s ms) = member-bytes m ++ (structural s ++ members-bytes ms)
 
   pub member-bytes : Member → List ℕ
-  member-bytes (Member.member {raw} c s v) = quoted raw ++ (structural s ++ value-bytes v)
+  member-bytes (Member.member {raw} c s v) = string-bytes raw ++ (structural s ++ value-bytes v)
 
   pub array-bytes : Array → List ℕ
   array-bytes (Array.no-values b e) = structural b ++ structural e

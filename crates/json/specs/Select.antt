@@ -5,7 +5,7 @@ use mathlib.Core.List.{List, [], _∷_, _++_}
 use Prim.Native.Nat.{ℕ, zero, suc, _+_, _-_, _*_, max}
 use lib.Dec.{eqb, leb}
 use lib.ListN.{length}
-use Rattle.json.specs.Grammar.{quoted, Value, Object, Members, Member, Array, Values, JSON-text, ahead, behind, structural, value-bytes, members-bytes, member-bytes, values-bytes}
+use Rattle.json.specs.Grammar.{string-bytes, Value, Object, Members, Member, Array, Values, JSON-text, ahead, behind, structural, value-bytes, members-bytes, member-bytes, values-bytes}
 
 -- ---- characters: RFC 8259, section 7
 
@@ -52,7 +52,7 @@ abbrev mutual
   tree a (Value.object o) = object-tree a o
   tree a (Value.array x) = array-tree a x
   tree a (Value.number {bs} n) = scalar a bs
-  tree a (Value.string {raw} s) = scalar a (quoted raw)
+  tree a (Value.string {raw} s) = scalar a (string-bytes raw)
 
   pub object-tree : ℕ → Object → Json
   object-tree a (Object.no-members b e) = object (a + length (ahead b)) (0x7B ∷ (behind b ++ (ahead e ++ (0x7D ∷ [])))) nil-fields
@@ -64,7 +64,7 @@ abbrev mutual
   fields a (Members.more-members m s ms) = with-member a m (fields (a + length (member-bytes m) + length (structural s)) ms)
 
   pub with-member : ℕ → Member → Fields → Fields
-  with-member a (Member.member {raw} {us} c s v) fs = field raw (characters us) (tree (a + length (quoted raw) + length (structural s)) v) fs
+  with-member a (Member.member {raw} {us} c s v) fs = field raw (characters us) (tree (a + length (string-bytes raw) + length (structural s)) v) fs
 
   pub array-tree : ℕ → Array → Json
   array-tree a (Array.no-values b e) = array (a + length (ahead b)) (0x5B ∷ (behind b ++ (ahead e ++ (0x5D ∷ [])))) nil
