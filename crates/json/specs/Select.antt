@@ -20,7 +20,7 @@ abbrev pub pair : Bool → ℕ → ℕ → List ℕ → List ℕ → List ℕ
 pair true u v us vs = (0x10000 + (u - 0xD800) * 0x400 + (v - 0xDC00)) ∷ us
 pair false u v us vs = u ∷ vs
 
--- "a character not in the Basic Multilingual Plane" is written as "the UTF-16 surrogate pair": two \uXXXX make one character
+-- "an extended character that is not in the Basic Multilingual Plane" is written as "the UTF-16 surrogate pair": two \uXXXX make one character
 abbrev pub characters : List ℕ → List ℕ
 characters [] = []
 characters (u ∷ []) = u ∷ []
@@ -105,7 +105,7 @@ abbrev pub keep-if : Bool → Json → List Json → List Json
 keep-if true t ts = t ∷ ts
 keep-if false t ts = ts
 
--- 2.3.1, the name selector: the member values whose name is that, "identical sequences of Unicode scalar values"
+-- 2.3.1, the name selector: the member values whose name is that; equal are "identical sequences of Unicode scalar values"
 abbrev pub named : List ℕ → Fields → List Json
 named n nil-fields = []
 named n (field raw us t fs) = keep-if (same us n) t (named n fs)
@@ -125,7 +125,7 @@ children (index i) (scalar a bs) = []
 children (index i) (array a bs is) = nth i is
 children (index i) (object a bs fs) = []
 
--- ---- 2.1.2: a segment takes each node of the nodelist in turn, and "the results are concatenated"
+-- ---- 2.1.2: a query is the root identifier and then segments, each applied to a nodelist: to every node in turn, what comes of it concatenated
 
 abbrev pub flat : (Json → List Json) → List Json → List Json
 flat f [] = []
@@ -135,7 +135,7 @@ abbrev pub segments : List Selector → List Json → List Json
 segments [] ts = ts
 segments (s ∷ ss) ts = segments ss (flat (children s) ts)
 
--- the nodelist of a query over a value: the root identifier gives "a nodelist with a single node"
+-- the nodelist of a query over a value: the root identifier gives the nodelist of that value alone
 abbrev pub select : List Selector → Json → List Json
 select ss root = segments ss (root ∷ [])
 

@@ -161,7 +161,7 @@ table =
     accepted "\"ð\u{90}\u{80}\u{80}\"" ∷
     accepted "\"ô\u{8f}¿¿\"" ∷
     accepted "{\"Î»\":\"ð\u{9d}\u{84}\u{9e}\"}" ∷
-    -- section 3: "MUST protect against decoding invalid sequences": overlong forms (C0 80), "the character numbers between U+D800 and U+DFFF", above 10FFFF, stray and missing octets
+    -- section 3: "MUST protect against decoding invalid sequences": overlong forms (C0 80), "character numbers between U+D800 and U+DFFF", above 10FFFF, stray and missing octets
     refused "\"À\u{80}\"" ∷
     refused "\"Á¿\"" ∷
     refused "\"à\u{80}\u{80}\"" ∷
