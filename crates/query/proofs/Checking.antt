@@ -85,15 +85,17 @@ module _ {path : List ℕ} {levels at : ℕ} {big : Bool} {steps : ℕ} (i : Che
       go : (c : ℕ) → length path - at < c → pathCheck path levels ≡ rest big steps levels (readFrom c path at) → (at < x) × Checking path levels x big (steps + 1)
       go zero l q = absurd (omega arith)
       go (suc c) l q =
-          let n = name-told path at e in
-          (n .3, record {
-            within = n .4;
-            short = i .short;
-            count = omega (arith, i .count);
-            fuel = c;
-            enough = omega arith;
-            same = q ∙ ap (rest big steps levels) (read-name c (n .0)) ∙ rest-name big steps levels (between (byteIn path) b f) (readFrom c path x);
-          })
+          let n = name-told path at e in (
+            n .3,
+            record {
+              within = n .4;
+              short = i .short;
+              count = omega (arith, i .count);
+              fuel = c;
+              enough = omega arith;
+              same = q ∙ ap (rest big steps levels) (read-name c (n .0)) ∙ rest-name big steps levels (between (byteIn path) b f) (readFrom c path x);
+            },
+          )
 
   pub checking-number : {m x : ℕ} {t : Bool} → told (stepAt path at) ≡ Number m x → ltb 16777215 m ≡ t → (at < x) × Checking path levels x (pick t true big) (steps + 1)
   checking-number {m} {x} {t} e h = go (i .fuel) (i .enough) (i .same)
@@ -101,17 +103,19 @@ module _ {path : List ℕ} {levels at : ℕ} {big : Bool} {steps : ℕ} (i : Che
       go : (c : ℕ) → length path - at < c → pathCheck path levels ≡ rest big steps levels (readFrom c path at) → (at < x) × Checking path levels x (pick t true big) (steps + 1)
       go zero l q = absurd (omega arith)
       go (suc c) l q =
-          let n = number-told path at e in
-          (n .3, record {
-            within = n .4;
-            short = i .short;
-            count = omega (arith, i .count);
-            fuel = c;
-            enough = omega arith;
-            same =
-                q ∙ ap (rest big steps levels) (read-number c (n .1)) ∙ rest-number big steps levels (n .0) (readFrom c path x)
-                ∙ ap (λ (b : Bool). rest b (steps + 1) levels (readFrom c path x)) (ap (λ (b : Bool). big || b) (large-told (n .0) m (n .2) ∙ h) ∙ or-pick big t);
-          })
+          let n = number-told path at e in (
+            n .3,
+            record {
+              within = n .4;
+              short = i .short;
+              count = omega (arith, i .count);
+              fuel = c;
+              enough = omega arith;
+              same =
+                  q ∙ ap (rest big steps levels) (read-number c (n .1)) ∙ rest-number big steps levels (n .0) (readFrom c path x)
+                  ∙ ap (λ (b : Bool). rest b (steps + 1) levels (readFrom c path x)) (ap (λ (b : Bool). big || b) (large-told (n .0) m (n .2) ∙ h) ∙ or-pick big t);
+            },
+          )
 
   pub checking-end : told (stepAt path at) ≡ End → pathCheck path levels ≡ verdictOf big steps levels
   unfolding readFrom large

@@ -7,3 +7,6 @@ pub mod Checking
 pub mod Names
 pub mod ItemLaws
 pub mod Walking
+pub mod Inside
+pub mod Going
+pub mod Answering

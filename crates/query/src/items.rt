@@ -182,7 +182,15 @@ fn item_from(text: &[u8], words: &[u64], s: Shape, k: usize, start: usize, hi: u
 }
 
 // The item with number m of those from lo to hi: behind the comma with the number before it.
-pub fn item_no(text: &[u8], words: &[u64], s: Shape, k: usize, m: usize, lo: usize, hi: usize) -> Item
+pub fn item_no(
+    text: &[u8],
+    words: &[u64],
+    s: Shape,
+    k: usize,
+    m: usize,
+    lo: usize,
+    hi: usize,
+) -> Item
     requires { ⌜ Lent (now text) (now words) s ⌝ }
     requires { ⌜ (1 ≤ k) × (k ≤ s .levels) ⌝ }
     requires { ⌜ (lo ≤ hi) × (hi ≤ length (now text)) ⌝ }

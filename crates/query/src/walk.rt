@@ -103,14 +103,7 @@ fn number_step(
 }
 
 // All steps of a path that was checked, from the value of `$` on.
-fn walk_path(
-    text: &[u8],
-    words: &[u64],
-    s: Shape,
-    path: &[u8],
-    from: usize,
-    to: usize,
-) -> Answer
+fn walk_path(text: &[u8], words: &[u64], s: Shape, path: &[u8], from: usize, to: usize) -> Answer
     requires { ⌜ Lent (now text) (now words) s ⌝ }
     requires { ⌜ (from ≤ to) × (to ≤ length (now text)) ⌝ }
     requires { ⌜ pathCheck (now path) (s .levels) ≡ Fine ⌝ }

@@ -1,85 +1,90 @@
+-- Check by check, in their order.
+use Prim.Native.Nat.{_+_, _*_, _≤_}
+use mathlib.Core.Path.{_≡_, sym, _∙_}
+use native.Mathlib.Omega.{arith}
+use native.Mathlib.Nat.{mul-le-mul-right}
+use borrow.Author.Tests.{eq-eqb, ne-eqb, lt-ltb, le-ltb, le-leb, lt-leb}
+use lib.ListN.{length}
+use Rattle.rules.specs.Layout.{widthOf, sizeOf}
+use Rattle.query.specs.Path.{readPath}
+use Rattle.query.specs.Answers.{answerOf}
+use Rattle.query.proofs.Answering.{onCheck, walkRead, by-check, by-walk}
+use borrow.Author.Needs.{needs}
 use Rattle.query.proofs.answer.Statement.{statement}
 use Rattle.query.proofs.answer.Tie as tie
-use Rattle.query.proofs.answer.Reads as reads
-use Rattle.query.proofs.answer.Lts as lts
-use Rattle.query.proofs.path.check_path.Reads as check-path-reads
-use Rattle.query.proofs.walk.walk_record.Reads as walk-record-reads
 
--- src/lib.rt:20:9
+-- past 1 to 4 the answer is the check's
+passed : (c : tie.After-check-path)
+    → let a = c .before .before .before .before .before .before .before .before .before .args in answerOf (a .text .now) (a .words .now) (a .levels) (a .path .now) ≡ onCheck (c .check-path .result) (walkRead (a .text .now) (a .words .now) (a .levels) (a .path .now) (readPath (a .path .now)))
+unfolding answerOf sizeOf widthOf
+passed c =
+    let a = c .before .before .before .before .before .before .before .before .before .args in
+    rw (ne-eqb _ _ (c .before .before .before .before .before .if1 .left), le-ltb _ _ (c .before .before .before .before .if2 .left), le-leb 1 (a .levels) (omega arith), le-leb (a .levels) 16 (omega arith), eq-eqb _ _ (c .before .if5 .left))
+    (by-check (a .text .now) (a .words .now) (a .levels) (a .path .now) (c .check-path .ensures))
+
 returns : tie.Need-returns
-returns c = ?
+unfolding answerOf
+returns c = rw (eq-eqb _ _ (c .if1 .taken))
 
--- src/lib.rt:23:9
 returns-2 : tie.Need-returns-2
-returns-2 c = ?
+unfolding answerOf
+returns-2 c = rw (ne-eqb _ _ (c .before .if1 .left), lt-ltb _ _ (c .if2 .taken))
 
--- src/lib.rt:26:9
 returns-3 : tie.Need-returns-3
-returns-3 c = ?
+unfolding answerOf
+returns-3 c = let a = c .before .before .before .before .before .before .args in rw (ne-eqb _ _ (c .before .before .if1 .left), le-ltb _ _ (c .before .if2 .left), lt-leb 1 (a .levels) (omega arith))
 
--- src/lib.rt:29:9
 returns-4 : tie.Need-returns-4
-returns-4 c = ?
+unfolding answerOf
+returns-4 c = let a = c .before .before .before .before .before .before .before .args in rw (ne-eqb _ _ (c .before .before .before .if1 .left), le-ltb _ _ (c .before .before .if2 .left), le-leb 1 (a .levels) (omega arith), lt-leb (a .levels) 16 (omega arith))
 
--- src/lib.rt:31:18
 add-width : tie.Need-add-width
-add-width c = ?
+add-width c = search needs
 
--- src/lib.rt:32:28
 mul-if5 : tie.Need-mul-if5
-mul-if5 c = ?
+mul-if5 c = search needs
 
--- src/lib.rt:32:24
 add-if5 : tie.Need-add-if5
-add-if5 c = ?
+add-if5 c = search needs
 
--- src/lib.rt:32:23
 mul-if5-2 : tie.Need-mul-if5-2
-mul-if5-2 c = ?
+unfolding widthOf
+mul-if5-2 c = let a = c .before .before .before .before .before .before .before .args in let l : 2 + 2 * a .levels ≤ 34 = omega arith in omega (arith, mul-le-mul-right (widthOf (length (a .text .now))) l)
 
--- src/lib.rt:33:9
 returns-5 : tie.Need-returns-5
-returns-5 c = ?
+unfolding answerOf sizeOf widthOf
+returns-5 c = let a = c .before .before .before .before .before .before .before .before .args in rw (ne-eqb _ _ (c .before .before .before .before .if1 .left), le-ltb _ _ (c .before .before .before .if2 .left), le-leb 1 (a .levels) (omega arith), le-leb (a .levels) 16 (omega arith), ne-eqb _ _ (c .if5 .taken))
 
--- src/lib.rt:35:9
 check-path-requires : tie.Need-check-path-requires
-check-path-requires c κs = ?
+check-path-requires c κs = search needs
 
--- src/lib.rt:37:30
 enum-known-checked : tie.Need-enum-known-checked
-enum-known-checked c = ?
+enum-known-checked c = search needs
 
--- src/lib.rt:38:52
 enum-told : tie.Need-enum-told
-enum-told c = ?
+enum-told c = search needs
 
--- src/lib.rt:39:51
 enum-told-2 : tie.Need-enum-told-2
-enum-told-2 c = ?
+enum-told-2 c = search needs
 
--- src/lib.rt:40:63
 enum-told-3 : tie.Need-enum-told-3
-enum-told-3 c = ?
+enum-told-3 c = search needs
 
--- src/lib.rt:40:32
 walk-record-requires : tie.Need-walk-record-requires
-walk-record-requires c κs = ?
+walk-record-requires c κs = (record { levels = omega arith; width = omega arith; long = c .before .before .before .if5 .left; inside = omega arith }, sym (c .before .before .check-path .ensures) ∙ c .enum-told3 .given .1)
 
--- src/lib.rt:16:1
 returns-6 : tie.Need-returns-6
-returns-6 c = ?
+returns-6 c = sym (passed (c .before .before .before) ∙ rw (c .before .checked .given .1))
 
--- src/lib.rt:16:1
 returns-7 : tie.Need-returns-7
-returns-7 c = ?
+returns-7 c = sym (passed (c .before .before) ∙ rw (c .enum-told .given .1))
 
--- src/lib.rt:16:1
 returns-8 : tie.Need-returns-8
-returns-8 c = ?
+returns-8 c = sym (passed (c .before .before) ∙ rw (c .enum-told2 .given .1))
 
--- src/lib.rt:16:1
 returns-9 : tie.Need-returns-9
-returns-9 c = ?
+unfolding widthOf
+returns-9 c = let a = c .before .before .before .before .before .before .before .before .before .before .before .before .args in by-walk (a .text .now) (a .words .now) (a .levels) (a .path .now) (sym (c .before .before .before .check-path .ensures) ∙ c .before .enum-told3 .given .1) (c .walk-record .ensures) ∙ sym (passed (c .before .before .before) ∙ rw (c .before .enum-told3 .given .1))
 
 pub answer-spec : {M : Type 1} → statement M
 answer-spec =

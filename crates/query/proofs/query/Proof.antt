@@ -1,54 +1,51 @@
+-- The answer, told: a found part lies inside the record.
+use mathlib.Core.Path.{refl, sym, _∙_, subst}
+use native.Mathlib.Omega.{arith}
+use lib.ListN.{length}
+use Rattle.query.specs.declared.types.Answer.the-variants.{Found}
+use Rattle.query.proofs.Inside.{In, answer-in}
+use borrow.Author.Needs.{needs}
 use Rattle.query.proofs.query.Statement.{statement}
 use Rattle.query.proofs.query.Tie as tie
-use Rattle.query.proofs.query.Reads as reads
-use Rattle.query.proofs.query.Lts as lts
-use Rattle.query.proofs.answer.Reads as answer-reads
-use Rattle.query.proofs.number_of.Reads as number-of-reads
-use Rattle.query.proofs.place_of.Reads as place-of-reads
 
--- src/lib.rt:87:9
+-- what is found lies in the record
+within : (c : tie.After-known-told) → In (length (c .before .before .before .before .before .before .before .args .text .now)) (Found (c .before .told .given .0 .0) (c .before .told .given .0 .1 .0))
+within c =
+    let a = c .before .before .before .before .before .before .before .args in
+    subst (In (length (a .text .now))) (sym (c .before .before .before .answer .ensures) ∙ c .before .told .given .1) (answer-in (a .text .now) (a .words .now) (a .levels) (a .path .now))
+
 answer-requires : tie.Need-answer-requires
-answer-requires c κs = ?
+answer-requires c κs = search needs
 
--- src/lib.rt:89:25
 enum-known-told : tie.Need-enum-known-told
-enum-known-told c = ?
+enum-known-told c = search needs
 
--- src/lib.rt:92:13
 sub-result : tie.Need-sub-result
-sub-result c = ?
+sub-result c = omega (arith, within c)
 
--- src/lib.rt:92:13
 part-result-start : tie.Need-part-result-start
-part-result-start c = ?
+part-result-start c = omega (arith, within c)
 
--- src/lib.rt:92:13
 part-result-end : tie.Need-part-result-end
-part-result-end c = ?
+part-result-end c = omega (arith, within c)
 
--- src/lib.rt:94:25
 enum-known-told-2 : tie.Need-enum-known-told-2
-enum-known-told-2 c = ?
+enum-known-told-2 c = search needs
 
--- src/lib.rt:95:23
 number-of-requires : tie.Need-number-of-requires
-number-of-requires c κs = ?
+number-of-requires c κs = search needs
 
--- src/lib.rt:96:22
 place-of-requires : tie.Need-place-of-requires
-place-of-requires c κs = ?
+place-of-requires c κs = search needs
 
--- src/lib.rt:97:13
 slice-aggregate-result : tie.Need-slice-aggregate-result
-slice-aggregate-result c = ?
+slice-aggregate-result c = search needs
 
--- src/lib.rt:73:1
 returns : tie.Need-returns
-returns c = ?
+returns c = rw (← c .before .before .before .before .answer .ensures, c .before .before .told .given .1) (refl, (refl, (refl, (refl, refl))))
 
--- src/lib.rt:73:1
 returns-2 : tie.Need-returns-2
-returns-2 c = ?
+returns-2 c = rw (← c .before .before .before .before .before .before .answer .ensures, c .before .before .before .before .told2 .given .1) (refl, (refl, (omega arith, (c .before .before .number-of .ensures, c .before .place-of .ensures))))
 
 pub query-spec : {M : Type 1} → statement M
 query-spec =
