@@ -1,0 +1,7 @@
+pub mod Places
+pub mod Lent
+pub mod Items
+pub mod Grammar
+pub mod Path
+pub mod Walk
+pub mod Answers
