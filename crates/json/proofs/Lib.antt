@@ -12,3 +12,11 @@ pub mod Trace
 pub mod Stretches
 pub mod Verdicts
 pub mod Sample
+pub mod Names
+pub mod Parts
+pub mod Values
+pub mod Elements
+pub mod Members
+pub mod Steps
+pub mod Agree
+pub mod Paths

@@ -264,8 +264,15 @@ Seg text i (b ∷ bs) = (getD text i 0 ≡ b) × Seg text (suc i) bs
 abbrev pub Never : (ℕ → Bool) → ℕ → ℕ → Type 0
 Never p i n = (j : ℕ) → i ≤ j → j < i + n → p j ≡ false
 
-never-more : (p : ℕ → Bool) (i n : ℕ) → p i ≡ false → Never p (suc i) n → Never p i (suc n)
+pub never-more : (p : ℕ → Bool) (i n : ℕ) → p i ≡ false → Never p (suc i) n → Never p i (suc n)
 never-more p i n h k j l m = ⊎-elim (λ (e : i ≡ j). rw (← e) h) (λ e. k j e (omega arith)) (eq-or-lt-of-le l)
+
+pub never-append : (p : ℕ → Bool) (i m n : ℕ) → Never p i m → Never p (i + m) n → Never p i (m + n)
+never-append p i m n h k j l o = go (decLt j (i + m))
+  where
+    go : Dec (j < i + m) → p j ≡ false
+    go (yes z) = h j l z
+    go (no z) = k j (omega arith) (omega arith)
 
 pub record Traced (text : List ℕ) (i n : ℕ) (q : Bool) (d : ℕ) (t : State) : Type 0 where
   pub after : At text (i + n) t

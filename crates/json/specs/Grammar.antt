@@ -2,14 +2,10 @@
 -- alternatives in the RFC's order. %xNN is 0xNN here. A rule stands below those that it names, so sections 6 and 7 precede 3, 4 and 5.
 use mathlib.Core.Path.{_≡_}
 use mathlib.Core.List.{List, [], _∷_, _++_}
-use Prim.Native.Nat.{ℕ, _+_, _-_, _*_, _%_, _≤_}
+use Prim.Native.Nat.{ℕ, _+_, _-_, _*_, _%_}
+pub use Rattle.query.specs.Grammar.{In}
 
--- ---- ABNF (RFC 5234)
-
--- %xLO-HI
-pub record In (lo hi b : ℕ) : Type 0 where
-  pub low : lo ≤ b
-  pub high : b ≤ hi
+-- ---- ABNF (RFC 5234): %xLO-HI is `In 0xLO 0xHI`
 
 -- [ rule ]
 pub data Opt (Rule : List ℕ → Type 0) : List ℕ → Type 0 where

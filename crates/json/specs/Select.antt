@@ -3,8 +3,10 @@ use mathlib.Core.Bool.{Bool, true, false, _&&_}
 use mathlib.Core.Logic.{_≢_}
 use mathlib.Core.List.{List, [], _∷_, _++_}
 use Prim.Native.Nat.{ℕ, zero, suc, _+_, _-_, _*_, max}
-use lib.Dec.{eqb, leb}
+use lib.Dec.{leb}
 use lib.ListN.{length}
+use Rattle.query.specs.Grammar.{Selector, name, number}
+use Rattle.query.specs.Items.{same}
 use Rattle.json.specs.Grammar.{string-bytes, Value, Object, Members, Member, Array, Values, JSON-text, ahead, behind, structural, value-bytes, members-bytes, member-bytes, values-bytes}
 
 -- ---- characters: RFC 8259, section 7
@@ -89,17 +91,7 @@ bytes-of (scalar a bs) = bs
 bytes-of (array a bs is) = bs
 bytes-of (object a bs fs) = bs
 
--- ---- RFC 9535: selectors
-
-pub data Selector : Type 0 where
-  name : List ℕ → Selector
-  index : ℕ → Selector
-
-abbrev pub same : List ℕ → List ℕ → Bool
-same [] [] = true
-same [] (y ∷ ys) = false
-same (x ∷ xs) [] = false
-same (x ∷ xs) (y ∷ ys) = eqb x y && same xs ys
+-- ---- RFC 9535: what a selector takes from a node
 
 abbrev pub keep-if : Bool → Json → List Json → List Json
 keep-if true t ts = t ∷ ts
@@ -121,9 +113,9 @@ abbrev pub children : Selector → Json → List Json
 children (name m) (scalar a bs) = []
 children (name m) (array a bs is) = []
 children (name m) (object a bs fs) = named m fs
-children (index i) (scalar a bs) = []
-children (index i) (array a bs is) = nth i is
-children (index i) (object a bs fs) = []
+children (number i) (scalar a bs) = []
+children (number i) (array a bs is) = nth i is
+children (number i) (object a bs fs) = []
 
 -- ---- 2.1.2: a query is the root identifier and then segments, each applied to a nodelist: to every node in turn, what comes of it concatenated
 

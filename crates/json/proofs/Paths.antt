@@ -1,0 +1,140 @@
+-- The path theorem: step after step the walk and RFC 9535 take the same node, from the whole text on. By the steps of the path.
+use mathlib.Core.Path.{_≡_, refl, sym, ap, ap₂, _∙_}
+use mathlib.Core.Bool.{Bool, true, false, not, _&&_}
+use mathlib.Core.Logic.{_≢_}
+use mathlib.Core.List.{List, [], _∷_, _++_, append-nil}
+use Prim.Native.Nat.{ℕ, zero, suc, _+_, _-_, _≤_, _<_}
+use native.Mathlib.Nat.{add-zero, zero-add}
+use native.Mathlib.Numerals.{add-one}
+use native.Mathlib.Omega.{arith}
+use borrow.Author.Tests.{ne-eqb, eq-eqb, le-ltb, le-leb, ltb-false}
+use lib.Dec.{eqb, ltb, leb}
+use lib.ListN.{length, getD, take, drop, length-append, length-take, length-drop}
+use lib.Seq.{ext-getD, getD-take, getD-drop}
+use Rattle.rules.specs.Word.{pick}
+use Rattle.rules.specs.Faults.{sound, faultOf}
+use Rattle.rules.specs.Layout.{quotes, colons, commas, widthOf, sizeOf, Promise}
+use Rattle.rules.proofs.LayoutLaws.{promised-bit}
+use Rattle.query.specs.Grammar.{Selector, name, number, Letter, Rest, Name, Steps, Path}
+use Rattle.query.specs.Places.{byteIn}
+use Rattle.query.specs.Items.{lent, ruled, valueAt}
+use Rattle.query.specs.Path.{Reading, good, bad, readPath, large}
+use Rattle.query.specs.Walk.{onFound, ofItem, stepBy, walkFrom, walk}
+use Rattle.query.specs.Answers.{refusalNumber, numberOf, partOf, afterReading, answerOf}
+use Rattle.query.specs.declared.items.Item.{Item}
+use Rattle.query.specs.declared.items.Item.the-variants as Items
+use Rattle.query.specs.declared.types.Cause.the-variants.{EmptyValue}
+use Rattle.query.specs.declared.types.Answer.{Answer}
+use Rattle.query.specs.declared.types.Answer.the-variants.{Found, Refused}
+use Rattle.query.specs.declared.types.Refusal.{Refusal}
+use Rattle.query.specs.declared.types.Refusal.the-variants.{EmptyRecord, LongRecord, BadLevels, BadBuffer, BadPath, TooLarge, TooDeep, Broken}
+use Rattle.query.proofs.PlaceLaws.{pick-ind}
+use Rattle.query.proofs.Inside.{In as Within, InItem, value-in, step-in}
+use Rattle.json.specs.Grammar.{In, Text}
+use Rattle.json.specs.Select.{Json, value-of, first-of, bytes-of, children, flat, segments, select, deep, Fair}
+use Rattle.json.specs.Demand2.{Obeys, root, Asked, Selects, Claim}
+use Rattle.json.proofs.Padded.{Bare, Pad, bare-bytes, pad-bytes, bare-tree, padded, padded-text, text-same-bytes, text-same-tree}
+use Rattle.json.proofs.Trace.{At, at-start, Seg}
+use Rattle.json.proofs.Stretches.{seg-at, seg-self}
+use Rattle.json.proofs.Values.{value-ends, Good, Hit, pad-hit}
+use Rattle.json.proofs.Steps.{Outcome, step-right}
+use Rattle.json.proofs.Agree.{Agree, walk-agree}
+use Rattle.json.proofs.Names.{Ascii, Plain-name, raw-children, children-same, All-fair, children-fair}
+use Rattle.json.proofs.Verdicts.{text-sound}
+
+-- ---- a node and its part
+
+first-tree : (a : ℕ) (v : Bare) → first-of (bare-tree a v) ≡ a
+first-tree a Bare.false = refl
+first-tree a Bare.null = refl
+first-tree a Bare.true = refl
+first-tree a (Bare.num n) = refl
+first-tree a (Bare.string s) = refl
+first-tree a (Bare.empty-array b) = refl
+first-tree a (Bare.array es) = refl
+first-tree a (Bare.empty-object b) = refl
+first-tree a (Bare.object ms) = refl
+
+bytes-tree : (a : ℕ) (v : Bare) → bytes-of (bare-tree a v) ≡ bare-bytes v
+bytes-tree a Bare.false = refl
+bytes-tree a Bare.null = refl
+bytes-tree a Bare.true = refl
+bytes-tree a (Bare.num n) = refl
+bytes-tree a (Bare.string s) = refl
+bytes-tree a (Bare.empty-array b) = refl
+bytes-tree a (Bare.array es) = refl
+bytes-tree a (Bare.empty-object b) = refl
+bytes-tree a (Bare.object ms) = refl
+
+-- a stretch that lies in the record is a part of it
+seg-part : (text : List ℕ) (a : ℕ) (bs : List ℕ) → Seg text a bs → a + length bs ≤ length text → partOf text (Found a (a + length bs)) ≡ bs
+seg-part text a bs g h =
+    let n : a + length bs - a ≡ length bs = omega arith in
+    let l : length (take (length bs) (drop a text)) ≡ length bs = simp (length-take, length-drop) (omega arith) in
+    rw n
+    (ext-getD 0 (take (length bs) (drop a text)) bs l
+    (λ i m. getD-take (length bs) (drop a text) i 0 (omega (arith, l)) ∙ getD-drop a text i 0 ∙ seg-at text a bs i g (omega (arith, l))))
+
+one-part : (text : List ℕ) (t : Json) (a : ℕ) (bs : List ℕ) → first-of t ≡ a → bytes-of t ≡ bs → partOf text (Found a (a + length bs)) ≡ bs
+    → Selects text (t ∷ []) (Found a (a + length bs))
+one-part text t a bs e f g =
+    let h : Selects text (t ∷ []) (Found (first-of t) (first-of t + length (bytes-of t))) = Selects.one t (rw (e, f) g) in
+    rw (e, f) at h
+
+-- ---- along a path, by any selection that at derived values takes what the walk takes
+
+abbrev All : (Json → Type 0) → List Json → Type 0
+All P [] = Unit {0}
+All P (t ∷ ts) = P t × All P ts
+
+abbrev Each : (Selector → Type 0) → List Selector → Type 0
+Each Q [] = Unit {0}
+Each Q (s ∷ ss) = Q s × Each Q ss
+
+abbrev along : (Selector → Json → List Json) → List Selector → List Json → List Json
+along kids [] ts = ts
+along kids (s ∷ ss) ts = along kids ss (flat (kids s) ts)
+
+along-none : (kids : Selector → Json → List Json) (ss : List Selector) → along kids ss [] ≡ []
+along-none kids [] = refl
+along-none kids (s ∷ ss) = along-none kids ss
+
+module _ (text : List ℕ) (kids : Selector → Json → List Json) (P : Json → Type 0) (Q : Selector → Type 0)
+    (agree : (s : Selector) (a : ℕ) (v : Bare) → Q s → P (bare-tree a v) → raw-children s (bare-tree a v) ≡ kids s (bare-tree a v))
+    (keeps : (s : Selector) (t : Json) → P t → All P (kids s t)) where
+  walked : (ss : List Selector) (k a : ℕ) (v : Bare) → Each Q ss → P (bare-tree a v) → Good text k a v → a + length (bare-bytes v) ≤ length text
+      → Selects text (along kids ss (bare-tree a v ∷ [])) (walkFrom (byteIn text) (ruled text) (suc k) ss a (a + length (bare-bytes v)))
+  unfolding walkFrom
+  walked [] k a v q p g l = one-part text (bare-tree a v) a (bare-bytes v) (first-tree a v) (bytes-tree a v) (seg-part text a (bare-bytes v) (g .seg) l)
+  walked (s ∷ ss) k a v q p g l =
+      go (rw (agree s a v (q .0) p) at (step-right text k s a v g)) (keeps s (bare-tree a v) p) (step-in (byteIn text) (ruled text) (length text) (suc k) s a _ l)
+      (λ a v p g l. walked ss (suc k) a v (q .1) p g l)
+    where
+      go : {x : Answer} → Outcome text (suc k) (kids s (bare-tree a v)) x → All P (kids s (bare-tree a v)) → Within (length text) x
+          → ((a : ℕ) (v : Bare) → P (bare-tree a v) → Good text (suc k) a v → a + length (bare-bytes v) ≤ length text
+          → Selects text (along kids ss (bare-tree a v ∷ [])) (walkFrom (byteIn text) (ruled text) (suc (suc k)) ss a (a + length (bare-bytes v))))
+          → Selects text (along kids ss (flat (kids s) (bare-tree a v ∷ []))) (onFound x (λ b f. walkFrom (byteIn text) (ruled text) (suc k + 1) ss b f) Refused)
+      go (Outcome.miss why h e f) p i r = rw (e, f, along-none kids ss) (Selects.none h)
+      go (Outcome.hit a v e f g) p i r =
+          let pa : P (bare-tree a v) × Unit {0} = rw e at p in
+          let fits : Within (length text) (Found a (a + length (bare-bytes v))) = rw f at i in
+          rw (e, f, append-nil, add-one) (r a v (pa .0) g (fits .1))
+
+-- the whole text is a value and blanks
+whole : (text : List ℕ) (t : Text text) → deep (value-of (t .derivation)) ≤ 64 → Hit text 0 (value-of (t .derivation)) (valueAt (byteIn text) 0 (length text))
+whole text t d =
+    let p : Pad = padded-text (t .derivation) in
+    let e : pad-bytes p ≡ text = text-same-bytes (t .derivation) ∙ t .derives in
+    let low : deep (padded 0 p) + 0 ≤ 64 = rw (add-zero, text-same-tree (t .derivation)) d in
+    let h : Hit text 0 (padded 0 p) (valueAt (byteIn text) 0 (0 + length (pad-bytes p))) = pad-hit text 0 0 p (rw e (seg-self text)) (at-start text) low in
+    rw (zero-add, e, text-same-tree (t .derivation)) at h
+
+module _ (text : List ℕ) (kids : Selector → Json → List Json) (P : Json → Type 0) (Q : Selector → Type 0)
+    (agree : (s : Selector) (a : ℕ) (v : Bare) → Q s → P (bare-tree a v) → raw-children s (bare-tree a v) ≡ kids s (bare-tree a v))
+    (keeps : (s : Selector) (t : Json) → P t → All P (kids s t)) where
+  from-whole : (x : Json) (ss : List Selector) → Each Q ss → P x → Hit text 0 x (valueAt (byteIn text) 0 (length text)) → Selects text (along kids ss (x ∷ [])) (walk text (ruled text) ss)
+  unfolding walk
+  from-whole x ss q p h =
+      let fits = value-in (byteIn text) 0 (length text) (length text) (omega arith) (omega arith) in
+      let f : InItem (length text) (Items.Found (h .place) (h .place + length (bare-bytes (h .value)))) = rw (h .is-part) at fits in
+      rw (h .is-tree, h .is-part) (walked text kids P Q agree keeps ss 0 (h .place) (h .value) q (rw (h .is-tree) at p) (h .good) (f .1))
