@@ -10,3 +10,6 @@ pub mod Walking
 pub mod Inside
 pub mod Going
 pub mod Answering
+pub mod Machine
+pub mod Grammars
+pub mod Reading
