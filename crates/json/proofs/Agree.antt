@@ -1,18 +1,19 @@
 -- The walk reads bits only at places of the record, and only of the levels of its steps: bits that agree there give the same answer. By the
 -- definitions, from a search over places up to the whole walk.
-use mathlib.Core.Path.{_≡_, refl, sym, ap, ap₂, _∙_}
+use mathlib.Core.Path.{_≡_, refl, ap, ap₂, _∙_}
 use mathlib.Core.Bool.{Bool, true, false, _&&_}
 use mathlib.Core.List.{List, [], _∷_}
 use Prim.Native.Nat.{ℕ, zero, suc, _+_, _-_, _≤_, _<_}
 use native.Mathlib.Omega.{arith}
-use native.Mathlib.Numerals.{add-one}
 use borrow.Author.Tests.{ltb-true}
 use lib.Dec.{eqb, ltb}
 use lib.ListN.{length}
 use Rattle.rules.specs.Word.{pick}
 use Rattle.query.specs.Grammar.{Selector, name, number}
 use Rattle.query.specs.Places.{byteIn, between, firstAt, firstIn}
-use Rattle.query.specs.Items.{Bits, solid, trimStart, trimEnd, valueAt, same, quoted, keyed, itemAt, orElse, itemsIn, items, itemNo}
+use Rattle.rules.specs.Layout.{quotes, colons, commas, widthOf, Promise}
+use Rattle.rules.proofs.LayoutLaws.{promised-bit}
+use Rattle.query.specs.Items.{Bits, lent, ruled, solid, trimStart, trimEnd, valueAt, same, quoted, keyed, itemAt, orElse, itemsIn, items, itemNo}
 use Rattle.query.specs.Walk.{onFound, ofItem, framed, filled, nameStep, numberStep, stepBy, walkFrom, walk}
 use Rattle.query.specs.declared.items.Item.{Item}
 use Rattle.query.specs.declared.items.Item.the-variants.{Other}
@@ -139,3 +140,15 @@ walk-agree text l b c ss h v = go (valueAt (byteIn text) 0 (length text)) (value
     go (Items.Found a e) i = walkFrom-agree (byteIn text) (length text) l b c h 1 ss a e (omega arith) (omega arith) (i .1)
     go Items.Other i = refl
     go (Items.Broken why) i = refl
+
+-- promised words give the bits of the rules
+pub walk-promised : (text : List ℕ) (levels : ℕ) (words : List ℕ) (ss : List Selector) → Promise text levels words → length ss ≤ levels
+    → walk text (lent words levels (widthOf (length text))) ss ≡ walk text (ruled text) ss
+walk-promised text levels words ss p h =
+    walk-agree text levels _ _ ss
+    (record {
+      quotes = λ i l. promised-bit text levels words p quotes tt i l;
+      colons = λ k i u v l. promised-bit text levels words p (colons k) (u, v) i l;
+      commas = λ k i u v l. promised-bit text levels words p (commas k) (u, v) i l;
+    })
+    h

@@ -84,7 +84,7 @@ module _ (text : List ℕ) (k : ℕ) where
       let opened : quoteBit text i ≡ true = quote-here text i 0x22 false false (q .0) (t .after .escaping) in
       let shut : quoteBit text (suc i + n) ≡ true = quote-here text (suc i + n) 0x22 false true (z .0) (u .after .escaping) in
       let f : firstAt (quoteBit text) (i + 1) e ≡ suc i + n =
-          ap (λ (x : ℕ). firstAt (quoteBit text) x e) (add-one i) ∙ first-at (quoteBit text) (suc i) (suc i + n) e (omega arith) (omega (arith, l)) (u .quotes refl) shut in
+      ap (λ (x : ℕ). firstAt (quoteBit text) x e) (add-one i) ∙ first-at (quoteBit text) (suc i) (suc i + n) e (omega arith) (omega (arith, l)) (u .quotes refl) shut in
       record {
         start = i;
         end = e;
@@ -160,7 +160,7 @@ module _ (text : List ℕ) (k : ℕ) where
         let r = seg-right text a zs (0x2C ∷ ys) g in
         let i : ℕ = a + length zs in
         let cut : firstAt (commas-of text k) a e ≡ i =
-            first-at (commas-of text k) a i e (omega arith) (omega (arith, q, l)) (t .commas-none) (comma-set text k i (t .after) (r .0)) in
+        first-at (commas-of text k) a i e (omega arith) (omega (arith, q, l)) (t .commas-none) (comma-set text k i (t .after) (r .0)) in
         rw (items-more c a e i cut (omega (arith, q, l)))
         (entry-chosen a p b s b′ (pad-fields (suc i) ms) _ g′ h (omega arith)
         (names-taken (suc i) ms c e (omega (arith, q, l)) (omega (arith, f, l)) (r .1) (separator-next text k i 0x2C (t .after) (r .0) refl) (omega arith)))

@@ -11,7 +11,7 @@ use lib.Dec.{eqb, leb}
 use lib.ListN.{length}
 use Rattle.query.specs.Grammar.{Selector, name, number}
 use Rattle.query.specs.Items.{same}
-use Rattle.json.specs.Grammar.{In, UTF8-char, Unescaped as Plain, Char, Chars}
+use Rattle.json.specs.Grammar.{UTF8-char, Char, Chars}
 use Rattle.json.specs.Select.{is-high, characters, Json, scalar, array, object, Items, nil, item, Fields, nil-fields, field, keep-if, named, nth, children, Unescaped, Fresh, Fair, Fair-items, Fair-fields}
 use Rattle.json.proofs.Padded.{Bare, Entry, Entries, entry-bytes, bare-tree, pad-fields}
 

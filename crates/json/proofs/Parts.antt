@@ -1,14 +1,14 @@
 -- Trimming a part of the record whose bytes are known: blanks, something whose ends are none, blanks. By the places of its first and last byte.
-use mathlib.Core.Path.{_≡_, refl, sym, ap, ap₂, _∙_}
-use mathlib.Core.Bool.{Bool, true, false, not}
+use mathlib.Core.Path.{_≡_, refl, ap, ap₂, _∙_}
+use mathlib.Core.Bool.{Bool, true, false}
 use mathlib.Core.List.{List, [], _∷_, _++_}
-use Prim.Native.Nat.{ℕ, zero, suc, _+_, _-_, _≤_, _<_}
-use native.Mathlib.Nat.{add-zero, add-suc, add-assoc}
+use Prim.Native.Nat.{ℕ, zero, suc, _+_, _-_, _≤_}
+use native.Mathlib.Nat.{add-zero}
 use native.Mathlib.Omega.{arith}
 use borrow.Author.Tests.{ne-eqb, lt-ltb}
 use lib.ListN.{length, getD, length-append}
 use Rattle.rules.specs.Layout.{listed}
-use Rattle.query.specs.Places.{byteIn, between, firstAt, pastLast}
+use Rattle.query.specs.Places.{byteIn, pastLast}
 use Rattle.query.specs.Items.{isBlank, solid, trimStart, trimEnd, valueAt}
 use Rattle.query.specs.declared.items.Item.the-variants.{Found}
 use Rattle.query.proofs.PlaceLaws.{first-at, first-all, last-here, last-next}
@@ -61,7 +61,7 @@ module _ (text : List ℕ) where
       let tail : Seg text (m + length xs) w′ = seg-right text m xs w′ (seg-right text a w (xs ++ w′) g) in
       let x : m + length xs - 1 ≡ m + h .last = omega (arith, h .size) in
       let st : trimStart (byteIn text) a (a + length (w ++ (xs ++ w′))) ≡ m =
-          first-at s a m _ (omega arith) (omega (arith, h .size)) (ws-blank a b (seg-left text a w (xs ++ w′) g)) (h .first-solid) in
+      first-at s a m _ (omega arith) (omega (arith, h .size)) (ws-blank a b (seg-left text a w (xs ++ w′) g)) (h .first-solid) in
       record {
         start = st;
         end =

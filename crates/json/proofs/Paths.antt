@@ -1,44 +1,39 @@
 -- The path theorem: step after step the walk and RFC 9535 take the same node, from the whole text on. By the steps of the path.
-use mathlib.Core.Path.{_≡_, refl, sym, ap, ap₂, _∙_}
-use mathlib.Core.Bool.{Bool, true, false, not, _&&_}
+use mathlib.Core.Path.{_≡_, refl, _∙_}
+use mathlib.Core.Bool.{true, false, not, _&&_}
 use mathlib.Core.Logic.{_≢_}
 use mathlib.Core.List.{List, [], _∷_, _++_, append-nil}
-use Prim.Native.Nat.{ℕ, zero, suc, _+_, _-_, _≤_, _<_}
+use Prim.Native.Nat.{ℕ, suc, _+_, _-_, _≤_, _<_}
 use native.Mathlib.Nat.{add-zero, zero-add}
 use native.Mathlib.Numerals.{add-one}
 use native.Mathlib.Omega.{arith}
 use borrow.Author.Tests.{ne-eqb, eq-eqb, le-ltb, le-leb, ltb-false}
 use lib.Dec.{eqb, ltb, leb}
-use lib.ListN.{length, getD, take, drop, length-append, length-take, length-drop}
+use lib.ListN.{length, take, drop, length-append, length-take, length-drop}
 use lib.Seq.{ext-getD, getD-take, getD-drop}
-use Rattle.rules.specs.Word.{pick}
-use Rattle.rules.specs.Faults.{sound, faultOf}
-use Rattle.rules.specs.Layout.{quotes, colons, commas, widthOf, sizeOf, Promise}
-use Rattle.rules.proofs.LayoutLaws.{promised-bit}
-use Rattle.query.specs.Grammar.{Selector, name, number, Letter, Rest, Name, Steps, Path}
+use Rattle.rules.specs.Layout.{sizeOf, Promise}
+use Rattle.query.specs.Grammar.{Selector, Letter, Rest, Name, Steps, Path}
 use Rattle.query.specs.Places.{byteIn}
-use Rattle.query.specs.Items.{lent, ruled, valueAt}
+use Rattle.query.specs.Items.{ruled, valueAt}
 use Rattle.query.specs.Path.{Reading, good, bad, readPath, large}
-use Rattle.query.specs.Walk.{onFound, ofItem, stepBy, walkFrom, walk}
-use Rattle.query.specs.Answers.{refusalNumber, numberOf, partOf, afterReading, answerOf}
-use Rattle.query.specs.declared.items.Item.{Item}
+use Rattle.query.specs.Walk.{onFound, walkFrom, walk}
+use Rattle.query.specs.Answers.{numberOf, partOf, afterReading, answerOf}
 use Rattle.query.specs.declared.items.Item.the-variants as Items
-use Rattle.query.specs.declared.types.Cause.the-variants.{EmptyValue}
 use Rattle.query.specs.declared.types.Answer.{Answer}
 use Rattle.query.specs.declared.types.Answer.the-variants.{Found, Refused}
-use Rattle.query.specs.declared.types.Refusal.{Refusal}
-use Rattle.query.specs.declared.types.Refusal.the-variants.{EmptyRecord, LongRecord, BadLevels, BadBuffer, BadPath, TooLarge, TooDeep, Broken}
+use Rattle.query.specs.declared.types.Refusal.the-variants.{EmptyRecord, LongRecord, BadLevels, BadBuffer, TooLarge, TooDeep}
 use Rattle.query.proofs.PlaceLaws.{pick-ind}
+use Rattle.query.proofs.Reading.{reads}
 use Rattle.query.proofs.Inside.{In as Within, InItem, value-in, step-in}
-use Rattle.json.specs.Grammar.{In, Text}
+use Rattle.json.specs.Grammar.{Text}
 use Rattle.json.specs.Select.{Json, value-of, first-of, bytes-of, children, flat, segments, select, deep, Fair}
 use Rattle.json.specs.Demand2.{Obeys, root, Asked, Selects, Claim}
 use Rattle.json.proofs.Padded.{Bare, Pad, bare-bytes, pad-bytes, bare-tree, padded, padded-text, text-same-bytes, text-same-tree}
-use Rattle.json.proofs.Trace.{At, at-start, Seg}
+use Rattle.json.proofs.Trace.{at-start, Seg}
 use Rattle.json.proofs.Stretches.{seg-at, seg-self}
 use Rattle.json.proofs.Values.{value-ends, Good, Hit, pad-hit}
 use Rattle.json.proofs.Steps.{Outcome, step-right}
-use Rattle.json.proofs.Agree.{Agree, walk-agree}
+use Rattle.json.proofs.Agree.{walk-promised}
 use Rattle.json.proofs.Names.{Ascii, Plain-name, raw-children, children-same, All-fair, children-fair}
 use Rattle.json.proofs.Verdicts.{text-sound}
 
@@ -138,3 +133,115 @@ module _ (text : List ℕ) (kids : Selector → Json → List Json) (P : Json �
       let fits = value-in (byteIn text) 0 (length text) (length text) (omega arith) (omega arith) in
       let f : InItem (length text) (Items.Found (h .place) (h .place + length (bare-bytes (h .value)))) = rw (h .is-part) at fits in
       rw (h .is-tree, h .is-part) (walked text kids P Q agree keeps ss 0 (h .place) (h .value) q (rw (h .is-tree) at p) (h .good) (f .1))
+
+-- ---- the steps of the subset's paths have ASCII names
+
+letter-ascii : {b : ℕ} → Letter b → b < 0x80
+letter-ascii (Letter.upper h) = omega arith
+letter-ascii (Letter.lower h) = omega arith
+letter-ascii Letter.underscore = omega arith
+
+rest-ascii : {bs : List ℕ} → Rest bs → Ascii bs
+rest-ascii Rest.none = tt
+rest-ascii (Rest.letter l r) = (letter-ascii l, rest-ascii r)
+rest-ascii (Rest.digit h r) = (omega arith, rest-ascii r)
+
+name-ascii : {n : List ℕ} → Name n → Ascii n
+name-ascii (Name.starts l r) = (letter-ascii l, rest-ascii r)
+
+steps-plain : {bs : List ℕ} {ss : List Selector} → Steps bs ss → Each Plain-name ss
+steps-plain Steps.none = tt
+steps-plain (Steps.dot n s) = (name-ascii n, steps-plain s)
+steps-plain (Steps.bracket d s) = (tt, steps-plain s)
+
+path-plain : {bs : List ℕ} {ss : List Selector} → Path bs ss → Each Plain-name ss
+path-plain (Path.root s) = steps-plain s
+
+-- ---- by the rules' bits
+
+-- with unescaped and unrepeated names: what RFC 9535 selects
+along-segments : (ss : List Selector) (ts : List Json) → along children ss ts ≡ segments ss ts
+along-segments [] ts = refl
+along-segments (s ∷ ss) ts = along-segments ss (flat (children s) ts)
+
+all-fair : (ts : List Json) → All-fair ts → All Fair ts
+all-fair [] h = tt
+all-fair (t ∷ ts) h = (h .0, all-fair ts (h .1))
+
+walk-selects : (text : List ℕ) (t : Obeys text) (path : List ℕ) (ss : List Selector) → Path path ss → Selects text (select ss (root t)) (walk text (ruled text) ss)
+walk-selects text t path ss p =
+    rw (along-segments ss (root t ∷ [])) at
+    (from-whole text children Fair Plain-name children-same (λ s x h. all-fair (children s x) (children-fair s x h)) (root t) ss (path-plain p) (t .fair)
+    (whole text (t .json) (t .shallow)))
+
+-- whatever the names: no broken item
+all-true : (ts : List Json) → All (λ _. Unit {0}) ts
+all-true [] = tt
+all-true (t ∷ ts) = (tt, all-true ts)
+
+each-true : (ss : List Selector) → Each (λ _. Unit {0}) ss
+each-true [] = tt
+each-true (s ∷ ss) = (tt, each-true ss)
+
+selects-number : {text : List ℕ} {ts : List Json} {x : Answer} → Selects text ts x → numberOf x ≢ 27
+selects-number (Selects.one t e) = omega arith
+selects-number (Selects.none h) = λ e. omega (arith, e)
+
+walk-unbroken : (text : List ℕ) (t : Text text) → deep (value-of (t .derivation)) ≤ 64 → (ss : List Selector) → numberOf (walk text (ruled text) ss) ≢ 27
+walk-unbroken text t d ss =
+    selects-number
+    (from-whole text raw-children (λ _. Unit {0}) (λ _. Unit {0}) (λ s a v q p. refl) (λ s x h. all-true (raw-children s x)) (value-of (t .derivation)) ss
+    (each-true ss) tt (whole text t d))
+
+-- ---- by lent words: the checks in their order, then the walk
+
+value-some : (text : List ℕ) (t : Text text) → 1 ≤ length text
+value-some text t = rw (← e) (some (padded-text (t .derivation)))
+  where
+    e : pad-bytes (padded-text (t .derivation)) ≡ text
+    e = text-same-bytes (t .derivation) ∙ t .derives
+
+    some : (p : Pad) → 1 ≤ length (pad-bytes p)
+    some (Pad.pad {w} {w′} b v b′) =
+        let h = value-ends (bare-bytes v) 0 v (seg-self (bare-bytes v)) in
+        omega (arith, length-append w (bare-bytes v ++ w′), length-append (bare-bytes v) w′, h .size)
+
+selected : (text words : List ℕ) (levels : ℕ) (path : List ℕ) (ss : List Selector) (t : Obeys text) → Asked text words levels path ss
+    → Selects text (select ss (root t)) (answerOf text words levels path)
+unfolding answerOf
+selected text words levels path ss t x =
+    rw (
+      ne-eqb (length text) 0 (omega (arith, value-some text (t .json))),
+      le-ltb 16777216 (length text) (x .size),
+      le-leb 1 levels (x .levels-in .low),
+      le-leb levels 16 (x .levels-in .high),
+      eq-eqb (length words) (sizeOf levels (length text)) (x .promised .long),
+      le-ltb 1024 (length path) (x .short),
+      reads (x .is-path),
+      x .small,
+      le-ltb levels (length ss) (x .enough),
+      walk-promised text levels words ss (x .promised) (x .enough),
+    )
+    (walk-selects text t path ss (x .is-path))
+
+unbroken : (text words : List ℕ) (levels : ℕ) (path : List ℕ) (t : Text text) → deep (value-of (t .derivation)) ≤ 64 → Promise text levels words
+    → numberOf (answerOf text words levels path) ≢ 27
+unfolding answerOf
+unbroken text words levels path t d p =
+    let P : Answer → Type 0 = λ x. numberOf x ≢ 27 in
+    pick-ind P (eqb (length text) 0) (Refused EmptyRecord) _ (λ _. omega arith) (λ _.
+    pick-ind P (ltb 16777216 (length text)) (Refused LongRecord) _ (λ _. omega arith) (λ _.
+    pick-ind P (not (leb 1 levels && leb levels 16)) (Refused BadLevels) _ (λ _. omega arith) (λ _.
+    pick-ind P (not (eqb (length words) (sizeOf levels (length text)))) (Refused BadBuffer) _ (λ _. omega arith) (λ _.
+    pick-ind P (ltb 1024 (length path)) (Refused TooLarge) _ (λ _. omega arith) (λ _. go (readPath path))))))
+  where
+    go : (r : Reading) → numberOf (afterReading text words levels r) ≢ 27
+    go (bad q) = omega arith
+    go (good ss) =
+        pick-ind (λ x. numberOf x ≢ 27) (large ss) (Refused TooLarge) _ (λ _. omega arith) (λ _.
+        pick-ind (λ x. numberOf x ≢ 27) (ltb levels (length ss)) (Refused TooDeep) _ (λ _. omega arith) (λ h.
+        rw (walk-promised text levels words ss p (ltb-false levels (length ss) h)) (walk-unbroken text t d ss)))
+
+-- demand 2, of paths
+pub claim : Claim
+claim = record { selected = selected; unbroken = unbroken; taken = text-sound }

@@ -1,22 +1,19 @@
 -- One step of the walk into a value that is derived: a part with what is taken from its node, or one of 23 to 26 where nothing is. By cases of
 -- the value and the step.
-use mathlib.Core.Path.{_≡_, refl, sym, ap, ap₂, _∙_}
+use mathlib.Core.Path.{_≡_, refl, sym, ap, _∙_}
 use mathlib.Core.Bool.{Bool, true, false, _&&_}
 use mathlib.Core.Logic.{_≢_}
 use mathlib.Core.List.{List, [], _∷_, _++_, append-nil}
-use Prim.Native.Nat.{ℕ, zero, suc, _+_, _-_, _≤_, _<_}
+use Prim.Native.Nat.{ℕ, suc, _+_, _-_, _≤_, _<_}
 use native.Mathlib.Omega.{arith}
 use native.Mathlib.Numerals.{add-one}
 use borrow.Author.Tests.{ne-eqb, eq-eqb, lt-ltb, le-ltb}
-use lib.Dec.{eqb, ltb}
+use lib.Dec.{ltb}
 use lib.ListN.{length, getD, length-append}
-use Rattle.rules.specs.Word.{pick}
-use Rattle.rules.specs.Bytes.{comma}
-use Rattle.rules.specs.Bits.{levelBit}
 use Rattle.rules.specs.Layout.{bitOf}
 use Rattle.query.specs.Grammar.{In, Selector, name, number}
-use Rattle.query.specs.Places.{byteIn, firstAt}
-use Rattle.query.specs.Items.{ruled, solid, trimStart, itemAt, itemsIn, items, itemNo}
+use Rattle.query.specs.Places.{byteIn}
+use Rattle.query.specs.Items.{ruled, solid, trimStart, itemAt, items, itemNo}
 use Rattle.query.specs.Walk.{ofItem, framed, filled, nameStep, numberStep, stepBy}
 use Rattle.query.specs.Answers.{refusalNumber}
 use Rattle.query.specs.declared.items.Item.{Item}
@@ -26,17 +23,17 @@ use Rattle.query.specs.declared.types.Refusal.{Refusal}
 use Rattle.query.specs.declared.types.Refusal.the-variants.{NotObject, NotArray, NoName, NoNumber}
 use Rattle.query.proofs.PlaceLaws.{first-at}
 use Rattle.json.specs.Grammar.{Ws, Number, string-bytes}
-use Rattle.json.specs.Select.{Json, scalar, deep, deep-items, deep-fields, nth}
-use Rattle.json.proofs.Padded.{Bare, Pad, Elems, Entry, Entries, bare-bytes, pad-bytes, elems-bytes, entry-bytes, entries-bytes, bare-tree, padded, pad-items, pad-fields}
+use Rattle.json.specs.Select.{Json, scalar}
+use Rattle.json.proofs.Padded.{Bare, Pad, Elems, Entry, Entries, bare-bytes, pad-bytes, elems-bytes, entry-bytes, entries-bytes, bare-tree}
 use Rattle.json.proofs.Machine.{up, sortOf, out}
 use Rattle.json.proofs.Derive.{Solids, number-solids, number-first}
 use Rattle.json.proofs.Trace.{At, Stepped, at-step, Seg}
 use Rattle.json.proofs.Stretches.{seg-left, seg-right}
 use Rattle.json.proofs.Parts.{Ends, ws-blank, all-blank}
-use Rattle.json.proofs.Values.{snoc-length, bracket-ends, value-ends, Good, Hit, Taken, none, one}
+use Rattle.json.proofs.Values.{snoc-length, bracket-ends, value-ends, Good, Taken, none, one}
 use Rattle.json.proofs.Elements.{commas-of, number-taken}
 use Rattle.json.proofs.Members.{names-taken}
-use Rattle.json.proofs.Names.{raw-named, raw-children}
+use Rattle.json.proofs.Names.{raw-children}
 
 -- what is taken from a node, and what the step answers
 pub data Outcome (text : List ℕ) (k : ℕ) (ts : List Json) (x : Answer) : Type 0 where
@@ -63,8 +60,12 @@ module _ (text : List ℕ) (k : ℕ) where
     is-framed : framed (byteIn text) c c′ a end ≡ true
     unfolding framed byteIn
     is-framed =
-        rw (inner-end, eq-eqb (getD text a 0) c (g .0), eq-eqb (getD text (suc a + length xs) 0) c′ (seg-right text (suc a) xs (c′ ∷ []) (g .1) .0),
-        lt-ltb (a + 1) end (omega (arith, snoc-length xs c′))) refl
+        rw (
+          inner-end,
+          eq-eqb (getD text a 0) c (g .0),
+          eq-eqb (getD text (suc a + length xs) 0) c′ (seg-right text (suc a) xs (c′ ∷ []) (g .1) .0),
+          lt-ltb (a + 1) end (omega (arith, snoc-length xs c′)),
+        ) refl
 
     is-filled : (b : ℕ) → trimStart (byteIn text) (suc a) (suc a + length xs) ≡ b → b < suc a + length xs → filled (byteIn text) a end ≡ true
     unfolding filled
