@@ -8,8 +8,8 @@ use native.Mathlib.Nat.{not-suc-le-zero}
 use native.Mathlib.Omega.{arith}
 use borrow.Author.Tests.{ne-eqb, eq-eqb}
 use lib.ListN.{length, length-append}
-use Rattle.json.specs.Grammar.{Opt, Ws, Minus, Int, Number, Chars, string-bytes, Text}
-use Rattle.json.proofs.Padded.{Bare, Pad, Elems, Entry, Entries, bare-bytes, pad-bytes, elems-bytes, entry-bytes, entries-bytes, padded-text, text-same-bytes}
+use Rattle.json.specs.Grammar.{Opt, Ws, Minus, Int, Number, Chars, stringBytes, Text}
+use Rattle.json.proofs.Padded.{Bare, Pad, Elems, Entry, Entries, bareBytes, padBytes, elemsBytes, entryBytes, entriesBytes, paddedText, text-same-bytes}
 use Rattle.json.proofs.Recogniser.{Rest, within, byte, literal, skip, digits, minus, number, string, Kind, a-value, elements, members, closed, next, rule, read, accepts}
 use Rattle.json.proofs.CompleteTokens.{byte-here, Dark, skip-ws, Delimiter, Ends, low-delimiter, closer-delimiter, ws-ends, number-here, string-here}
 
@@ -60,7 +60,7 @@ record Opens (bs : List ℕ) : Type 0 where
   dark : 0x21 ≤ first
   no-end : first ≡ 0x5D → ⊥
 
-opens : (v : Bare) → Opens (bare-bytes v)
+opens : (v : Bare) → Opens (bareBytes v)
 opens Bare.false = record { first = 0x66; rest = _; whole = refl; dark = omega arith; no-end = omega arith }
 opens Bare.null = record { first = 0x6E; rest = _; whole = refl; dark = omega arith; no-end = omega arith }
 opens Bare.true = record { first = 0x74; rest = _; whole = refl; dark = omega arith; no-end = omega arith }
@@ -71,7 +71,7 @@ opens (Bare.array es) = record { first = 0x5B; rest = _; whole = refl; dark = om
 opens (Bare.empty-object b) = record { first = 0x7B; rest = _; whole = refl; dark = omega arith; no-end = omega arith }
 opens (Bare.object es) = record { first = 0x7B; rest = _; whole = refl; dark = omega arith; no-end = omega arith }
 
-value-dark : (v : Bare) (r : List ℕ) → Dark (bare-bytes v ++ r)
+value-dark : (v : Bare) (r : List ℕ) → Dark (bareBytes v ++ r)
 value-dark v r = let s = opens v in rw (s .whole) (s .dark)
 
 -- behind the blanks something that is not the closer
@@ -79,7 +79,7 @@ closed-not : (c : ℕ) (f : List ℕ → Rest) (b : ℕ) (bs : List ℕ) → (b 
 unfolding closed
 closed-not c f b bs h = rw (ne-eqb b c h) refl
 
-closed-value : (f : List ℕ → Rest) (v : Bare) (r : List ℕ) → closed 0x5D f (bare-bytes v ++ r) ≡ f (bare-bytes v ++ r)
+closed-value : (f : List ℕ → Rest) (v : Bare) (r : List ℕ) → closed 0x5D f (bareBytes v ++ r) ≡ f (bareBytes v ++ r)
 closed-value f v r = let s = opens v in rw (s .whole) (closed-not 0x5D f (s .first) (s .rest ++ r) (s .no-end))
 
 -- ---- what the parts of an array or an object come to
@@ -87,47 +87,47 @@ closed-value f v r = let s = opens v in rw (s .whole) (closed-not 0x5D f (s .fir
 -- blanks, a value, blanks, and what follows
 record Passed (p : Pad) (n : ℕ) (xs : List ℕ) : Type 0 where
   rest : List ℕ
-  reads : read n a-value (skip (pad-bytes p ++ xs)) ≡ some rest
+  reads : read n a-value (skip (padBytes p ++ xs)) ≡ some rest
   onward : skip rest ≡ xs
 
-skip-pad : {w w′ : List ℕ} (v : Bare) (b : Ws w) (b′ : Ws w′) (xs : List ℕ) → skip (pad-bytes (Pad.pad b v b′) ++ xs) ≡ bare-bytes v ++ (w′ ++ xs)
+skip-pad : {w w′ : List ℕ} (v : Bare) (b : Ws w) (b′ : Ws w′) (xs : List ℕ) → skip (padBytes (Pad.pad b v b′) ++ xs) ≡ bareBytes v ++ (w′ ++ xs)
 skip-pad {w} {w′} v b b′ xs =
-    rw (append-assoc w (bare-bytes v ++ w′) xs, append-assoc (bare-bytes v) w′ xs) (skip-ws (bare-bytes v ++ (w′ ++ xs)) b (value-dark v (w′ ++ xs)))
+    rw (append-assoc w (bareBytes v ++ w′) xs, append-assoc (bareBytes v) w′ xs) (skip-ws (bareBytes v ++ (w′ ++ xs)) b (value-dark v (w′ ++ xs)))
 
 skip-entry : {w raw us w′ : List ℕ} (b : Ws w) (s : Chars raw us) (b′ : Ws w′) (p : Pad) (xs : List ℕ)
-    → skip (entry-bytes (Entry.entry b s b′ p) ++ xs) ≡ 0x22 ∷ (raw ++ (0x22 ∷ (w′ ++ (0x3A ∷ (pad-bytes p ++ xs)))))
+    → skip (entryBytes (Entry.entry b s b′ p) ++ xs) ≡ 0x22 ∷ (raw ++ (0x22 ∷ (w′ ++ (0x3A ∷ (padBytes p ++ xs)))))
 skip-entry {w} {raw} {us} {w′} b s b′ p xs =
     ap skip regroup ∙ skip-ws _ b (omega arith)
   where
-    regroup : entry-bytes (Entry.entry b s b′ p) ++ xs ≡ w ++ (0x22 ∷ (raw ++ (0x22 ∷ (w′ ++ (0x3A ∷ (pad-bytes p ++ xs))))))
+    regroup : entryBytes (Entry.entry b s b′ p) ++ xs ≡ w ++ (0x22 ∷ (raw ++ (0x22 ∷ (w′ ++ (0x3A ∷ (padBytes p ++ xs))))))
     regroup = simp append-assoc
 
-elems-open : (f : List ℕ → Rest) (es : Elems) (xs : List ℕ) → closed 0x5D f (skip (elems-bytes es ++ xs)) ≡ f (skip (elems-bytes es ++ xs))
+elems-open : (f : List ℕ → Rest) (es : Elems) (xs : List ℕ) → closed 0x5D f (skip (elemsBytes es ++ xs)) ≡ f (skip (elemsBytes es ++ xs))
 elems-open f (Elems.last (Pad.pad {w} {w′} b v b′)) xs = rw (skip-pad v b b′ xs) (closed-value f v (w′ ++ xs))
 elems-open f (Elems.more (Pad.pad {w} {w′} b v b′) es) xs =
-    rw (append-assoc (pad-bytes (Pad.pad b v b′)) (0x2C ∷ elems-bytes es) xs, skip-pad v b b′ (0x2C ∷ (elems-bytes es ++ xs))) (closed-value f v (w′ ++ (0x2C ∷ (elems-bytes es ++ xs))))
+    rw (append-assoc (padBytes (Pad.pad b v b′)) (0x2C ∷ elemsBytes es) xs, skip-pad v b b′ (0x2C ∷ (elemsBytes es ++ xs))) (closed-value f v (w′ ++ (0x2C ∷ (elemsBytes es ++ xs))))
 
-entries-open : (f : List ℕ → Rest) (es : Entries) (xs : List ℕ) → closed 0x7D f (skip (entries-bytes es ++ xs)) ≡ f (skip (entries-bytes es ++ xs))
+entries-open : (f : List ℕ → Rest) (es : Entries) (xs : List ℕ) → closed 0x7D f (skip (entriesBytes es ++ xs)) ≡ f (skip (entriesBytes es ++ xs))
 entries-open f (Entries.last-entry (Entry.entry b s b′ p)) xs = rw (skip-entry b s b′ p xs) (closed-not 0x7D f 0x22 _ (omega arith))
 entries-open f (Entries.more-entries (Entry.entry b s b′ p) es) xs =
-    rw (append-assoc (entry-bytes (Entry.entry b s b′ p)) (0x2C ∷ entries-bytes es) xs, skip-entry b s b′ p (0x2C ∷ (entries-bytes es ++ xs))) (closed-not 0x7D f 0x22 _ (omega arith))
+    rw (append-assoc (entryBytes (Entry.entry b s b′ p)) (0x2C ∷ entriesBytes es) xs, skip-entry b s b′ p (0x2C ∷ (entriesBytes es ++ xs))) (closed-not 0x7D f 0x22 _ (omega arith))
 
 -- one item more
-elements-step : (p : Pad) (n : ℕ) (xs r : List ℕ) → Passed p n xs → next 0x5D (read n elements) xs ≡ some r → rule (read n) elements (skip (pad-bytes p ++ xs)) ≡ some r
+elements-step : (p : Pad) (n : ℕ) (xs r : List ℕ) → Passed p n xs → next 0x5D (read n elements) xs ≡ some r → rule (read n) elements (skip (padBytes p ++ xs)) ≡ some r
 unfolding rule
 elements-step p n xs r h e = rw (h .reads, h .onward) e
 
 members-step : {w raw us w′ : List ℕ} (b : Ws w) (s : Chars raw us) (b′ : Ws w′) (p : Pad) (n : ℕ) (xs r : List ℕ) → Passed p n xs
-    → next 0x7D (read n members) xs ≡ some r → rule (read n) members (skip (entry-bytes (Entry.entry b s b′ p) ++ xs)) ≡ some r
+    → next 0x7D (read n members) xs ≡ some r → rule (read n) members (skip (entryBytes (Entry.entry b s b′ p) ++ xs)) ≡ some r
 unfolding rule
 members-step {w} {raw} {us} {w′} b s b′ p n xs r h e =
-    let ys : List ℕ = 0x3A ∷ (pad-bytes p ++ xs) in
+    let ys : List ℕ = 0x3A ∷ (padBytes p ++ xs) in
     rw (
       skip-entry b s b′ p xs,
       byte-here 0x22 0x22 0x22 (raw ++ (0x22 ∷ (w′ ++ ys))) (omega arith),
       string-here (w′ ++ ys) s,
       skip-ws ys b′ (omega arith),
-      byte-here 0x3A 0x3A 0x3A (pad-bytes p ++ xs) (omega arith),
+      byte-here 0x3A 0x3A 0x3A (padBytes p ++ xs) (omega arith),
       h .reads,
       h .onward,
     ) e
@@ -164,16 +164,16 @@ unfolding rule
 object-rule f bs r e = e
 
 literal-rule : (f : Kind → List ℕ → Rest) (r : List ℕ)
-    → (rule f a-value (bare-bytes Bare.false ++ r) ≡ some r) × (rule f a-value (bare-bytes Bare.null ++ r) ≡ some r) × (rule f a-value (bare-bytes Bare.true ++ r) ≡ some r)
+    → (rule f a-value (bareBytes Bare.false ++ r) ≡ some r) × (rule f a-value (bareBytes Bare.null ++ r) ≡ some r) × (rule f a-value (bareBytes Bare.true ++ r) ≡ some r)
 unfolding rule literal byte within
 literal-rule f r = (refl, refl, refl)
 
-string-rule : (f : Kind → List ℕ → Rest) {raw us : List ℕ} (r : List ℕ) → Chars raw us → rule f a-value (string-bytes raw ++ r) ≡ some r
+string-rule : (f : Kind → List ℕ → Rest) {raw us : List ℕ} (r : List ℕ) → Chars raw us → rule f a-value (stringBytes raw ++ r) ≡ some r
 unfolding rule
 string-rule f {raw} r s = rw (append-assoc raw (0x22 ∷ []) r) (string-here r s)
 
 mutual
-  value-reads : (v : Bare) (n : ℕ) (r : List ℕ) → length (bare-bytes v) + length (bare-bytes v) ≤ n → Ends r → read n a-value (bare-bytes v ++ r) ≡ some r
+  value-reads : (v : Bare) (n : ℕ) (r : List ℕ) → length (bareBytes v) + length (bareBytes v) ≤ n → Ends r → read n a-value (bareBytes v ++ r) ≡ some r
   value-reads Bare.false n r h e = read-suc n a-value _ r (omega arith) (λ m q. literal-rule (read m) r .0)
   value-reads Bare.null n r h e = read-suc n a-value _ r (omega arith) (λ m q. literal-rule (read m) r .1)
   value-reads Bare.true n r h e = read-suc n a-value _ r (omega arith) (λ m q. literal-rule (read m) r .2)
@@ -186,67 +186,67 @@ mutual
       (λ m q. rw (append-assoc w (0x5D ∷ []) r) (array-rule (read m) _ r (rw (skip-ws (0x5D ∷ r) b (omega arith)) (closed-end 0x5D (read m elements) r))))
   value-reads (Bare.array es) n r h e =
       read-suc n a-value _ r (omega arith) λ m q.
-      rw (append-assoc (elems-bytes es) (0x5D ∷ []) r)
+      rw (append-assoc (elemsBytes es) (0x5D ∷ []) r)
       (array-rule (read m) _ r
-      (elems-open (read m elements) es (0x5D ∷ r) ∙ elems-read es m r (omega (arith, q, length-append (elems-bytes es) (0x5D ∷ [])))))
+      (elems-open (read m elements) es (0x5D ∷ r) ∙ elems-read es m r (omega (arith, q, length-append (elemsBytes es) (0x5D ∷ [])))))
   value-reads (Bare.empty-object {w} b) n r h e =
       read-suc n a-value _ r (omega arith)
       (λ m q. rw (append-assoc w (0x7D ∷ []) r) (object-rule (read m) _ r (rw (skip-ws (0x7D ∷ r) b (omega arith)) (closed-end 0x7D (read m members) r))))
   value-reads (Bare.object es) n r h e =
       read-suc n a-value _ r (omega arith) λ m q.
-      rw (append-assoc (entries-bytes es) (0x7D ∷ []) r)
+      rw (append-assoc (entriesBytes es) (0x7D ∷ []) r)
       (object-rule (read m) _ r
-      (entries-open (read m members) es (0x7D ∷ r) ∙ entries-read es m r (omega (arith, q, length-append (entries-bytes es) (0x7D ∷ [])))))
+      (entries-open (read m members) es (0x7D ∷ r) ∙ entries-read es m r (omega (arith, q, length-append (entriesBytes es) (0x7D ∷ [])))))
 
-  pad-passed : (p : Pad) (n : ℕ) (xs : List ℕ) → length (pad-bytes p) + length (pad-bytes p) ≤ n → Dark xs → Ends xs → Passed p n xs
+  pad-passed : (p : Pad) (n : ℕ) (xs : List ℕ) → length (padBytes p) + length (padBytes p) ≤ n → Dark xs → Ends xs → Passed p n xs
   pad-passed (Pad.pad {w} {w′} b v b′) n xs h d e = record {
     rest = w′ ++ xs;
-    reads = rw (skip-pad v b b′ xs) (value-reads v n (w′ ++ xs) (omega (arith, length-append w (bare-bytes v ++ w′), length-append (bare-bytes v) w′)) (ws-ends xs b′ e));
+    reads = rw (skip-pad v b b′ xs) (value-reads v n (w′ ++ xs) (omega (arith, length-append w (bareBytes v ++ w′), length-append (bareBytes v) w′)) (ws-ends xs b′ e));
     onward = skip-ws xs b′ d;
   }
 
-  elems-read : (es : Elems) (n : ℕ) (r : List ℕ) → suc (length (elems-bytes es) + length (elems-bytes es)) ≤ n
-      → read n elements (skip (elems-bytes es ++ (0x5D ∷ r))) ≡ some r
+  elems-read : (es : Elems) (n : ℕ) (r : List ℕ) → suc (length (elemsBytes es) + length (elemsBytes es)) ≤ n
+      → read n elements (skip (elemsBytes es ++ (0x5D ∷ r))) ≡ some r
   elems-read (Elems.last p) n r h =
       read-suc n elements _ r (omega arith) λ m q.
       elements-step p m (0x5D ∷ r) r (pad-passed p m (0x5D ∷ r) (omega arith) (omega arith) (closer-delimiter 0x5D (omega arith) (omega arith)))
       (next-end 0x5D (read m elements) r)
   elems-read (Elems.more p es) n r h =
       read-suc n elements _ r (omega arith) λ m q.
-      let l = length-append (pad-bytes p) (0x2C ∷ elems-bytes es) in
-      let xs : List ℕ = elems-bytes es ++ (0x5D ∷ r) in
-      rw (append-assoc (pad-bytes p) (0x2C ∷ elems-bytes es) (0x5D ∷ r))
+      let l = length-append (padBytes p) (0x2C ∷ elemsBytes es) in
+      let xs : List ℕ = elemsBytes es ++ (0x5D ∷ r) in
+      rw (append-assoc (padBytes p) (0x2C ∷ elemsBytes es) (0x5D ∷ r))
       (elements-step p m (0x2C ∷ xs) r (pad-passed p m (0x2C ∷ xs) (omega arith) (omega arith) comma-delimiter)
       (next-more 0x5D (read m elements) xs r (omega arith) (elems-read es m r (omega arith))))
 
-  entry-passed : (x : Entry) (n : ℕ) (xs r : List ℕ) → length (entry-bytes x) + length (entry-bytes x) ≤ n → Dark xs → Ends xs
-      → next 0x7D (read n members) xs ≡ some r → rule (read n) members (skip (entry-bytes x ++ xs)) ≡ some r
+  entry-passed : (x : Entry) (n : ℕ) (xs r : List ℕ) → length (entryBytes x) + length (entryBytes x) ≤ n → Dark xs → Ends xs
+      → next 0x7D (read n members) xs ≡ some r → rule (read n) members (skip (entryBytes x ++ xs)) ≡ some r
   entry-passed (Entry.entry {w} {raw} {us} {w′} b s b′ p) n xs r h d e k =
-      members-step b s b′ p n xs r (pad-passed p n xs (omega (arith, length-append (w ++ (string-bytes raw ++ w′)) (0x3A ∷ pad-bytes p))) d e) k
+      members-step b s b′ p n xs r (pad-passed p n xs (omega (arith, length-append (w ++ (stringBytes raw ++ w′)) (0x3A ∷ padBytes p))) d e) k
 
-  entries-read : (es : Entries) (n : ℕ) (r : List ℕ) → suc (length (entries-bytes es) + length (entries-bytes es)) ≤ n
-      → read n members (skip (entries-bytes es ++ (0x7D ∷ r))) ≡ some r
+  entries-read : (es : Entries) (n : ℕ) (r : List ℕ) → suc (length (entriesBytes es) + length (entriesBytes es)) ≤ n
+      → read n members (skip (entriesBytes es ++ (0x7D ∷ r))) ≡ some r
   entries-read (Entries.last-entry x) n r h =
       read-suc n members _ r (omega arith) λ m q.
       entry-passed x m (0x7D ∷ r) r (omega arith) (omega arith) (closer-delimiter 0x7D (omega arith) (omega arith)) (next-end 0x7D (read m members) r)
   entries-read (Entries.more-entries x es) n r h =
       read-suc n members _ r (omega arith) λ m q.
-      let l = length-append (entry-bytes x) (0x2C ∷ entries-bytes es) in
-      let xs : List ℕ = entries-bytes es ++ (0x7D ∷ r) in
-      rw (append-assoc (entry-bytes x) (0x2C ∷ entries-bytes es) (0x7D ∷ r))
+      let l = length-append (entryBytes x) (0x2C ∷ entriesBytes es) in
+      let xs : List ℕ = entriesBytes es ++ (0x7D ∷ r) in
+      rw (append-assoc (entryBytes x) (0x2C ∷ entriesBytes es) (0x7D ∷ r))
       (entry-passed x m (0x2C ∷ xs) r (omega arith) (omega arith) comma-delimiter
       (next-more 0x7D (read m members) xs r (omega arith) (entries-read es m r (omega arith))))
 
 -- ---- every text is accepted
 
-pad-accepted : (p : Pad) → accepts (pad-bytes p) ≡ true
+pad-accepted : (p : Pad) → accepts (padBytes p) ≡ true
 unfolding accepts
 pad-accepted p =
-    let n : ℕ = length (pad-bytes p) in
+    let n : ℕ = length (padBytes p) in
     let h = pad-passed p (suc (n + n)) [] (omega arith) tt tt in
-    let e : pad-bytes p ++ [] ≡ pad-bytes p = append-nil (pad-bytes p) in
-    let k : read (suc (n + n)) a-value (skip (pad-bytes p)) ≡ some (h .rest) = ap (λ (l : List ℕ). read (suc (n + n)) a-value (skip l)) (sym e) ∙ h .reads in
+    let e : padBytes p ++ [] ≡ padBytes p = append-nil (padBytes p) in
+    let k : read (suc (n + n)) a-value (skip (padBytes p)) ≡ some (h .rest) = ap (λ (l : List ℕ). read (suc (n + n)) a-value (skip l)) (sym e) ∙ h .reads in
     rw (k, h .onward) refl
 
 pub text-accepted : (bs : List ℕ) → Text bs → accepts bs ≡ true
-text-accepted bs t = ap accepts (sym (text-same-bytes (t .derivation) ∙ t .derives)) ∙ pad-accepted (padded-text (t .derivation))
+text-accepted bs t = ap accepts (sym (text-same-bytes (t .derivation) ∙ t .derives)) ∙ pad-accepted (paddedText (t .derivation))

@@ -9,9 +9,9 @@ use native.Mathlib.Omega.{arith}
 use borrow.Author.Tests.{lt-ltb}
 use lib.Dec.{ltb}
 use lib.ListN.{length}
-use Rattle.json.specs.Grammar.{Opt, Blank, Ws, Digits, Digits1, Minus, Int, Frac, E, Sign, Exp, Number, Hexdig, UTF8-char, Unescaped, Char, Chars, string-bytes}
-use Rattle.json.specs.Select.{deep, deep-items, deep-fields, Fields, nil-fields}
-use Rattle.json.proofs.Padded.{Bare, Pad, Elems, Entry, Entries, bare-bytes, pad-bytes, elems-bytes, entry-bytes, entries-bytes, bare-tree, padded, pad-items, with-entry, pad-fields}
+use Rattle.json.specs.Grammar.{Opt, Blank, Ws, Digits, Digits1, Minus, Int, Frac, E, Sign, Exp, Number, Hexdig, UTF8-char, Unescaped, Char, Chars, stringBytes}
+use Rattle.json.specs.Select.{deep, deepItems, deepFields, Fields, noFields}
+use Rattle.json.proofs.Padded.{Bare, Pad, Elems, Entry, Entries, bareBytes, padBytes, elemsBytes, entryBytes, entriesBytes, bareTree, padded, padItems, withEntry, padFields}
 use Rattle.json.proofs.Machine.{down, sep, sortOf, Apart, sort-plain, State, out, str, check, go, go-append, inside-other}
 
 -- ---- bytes that leave the machine alone
@@ -135,7 +135,7 @@ pub chars-run : {raw us : List ℕ} (q : Bool) (d k : ℕ) → Chars raw us → 
 chars-run q d k Chars.none = refl
 chars-run q d k (Chars.char {b} {bs} c cs) = go-append q d (str k) b bs (char-run q d k c) ∙ chars-run q d k cs
 
-pub string-run : {raw us : List ℕ} (d k : ℕ) → Chars raw us → go true d (out k) (string-bytes raw) ≡ some (out k)
+pub string-run : {raw us : List ℕ} (d k : ℕ) → Chars raw us → go true d (out k) (stringBytes raw) ≡ some (out k)
 string-run {raw} d k c = go-append true d (str k) raw (0x22 ∷ []) (chars-run true d k c)
 
 -- ---- values
@@ -149,7 +149,7 @@ bracket : (d k c : ℕ) (xs : List ℕ) → d ≤ k → k < 64 → sortOf c ≡ 
     → check (ltb k 64) (go true d (out (suc k)) (xs ++ (c ∷ []))) ≡ some (out k)
 bracket d k c xs h l f g = rw (lt-ltb k 64 l, go-append true d (out (suc k)) xs (c ∷ []) g, f, lt-ltb d (suc k) (omega arith)) refl
 
-deep-rest : (a : ℕ) (m : Entry) (fs : Fields) → deep-fields fs ≤ deep-fields (with-entry a m fs)
+deep-rest : (a : ℕ) (m : Entry) (fs : Fields) → deepFields fs ≤ deepFields (withEntry a m fs)
 deep-rest a (Entry.entry b s b′ p) fs = omega arith
 
 -- a comma or colon where it may stand
@@ -157,42 +157,42 @@ separate : (d k c : ℕ) (xs : List ℕ) {t : State} → sortOf c ≡ sep → d 
 separate d k c xs e h f = rw (e, lt-ltb d k h) f
 
 -- a name and its blanks
-pub name-run : {w raw us w′ : List ℕ} (d k : ℕ) → Ws w → Chars raw us → Ws w′ → go true d (out k) (w ++ (string-bytes raw ++ w′)) ≡ some (out k)
+pub name-run : {w raw us w′ : List ℕ} (d k : ℕ) → Ws w → Chars raw us → Ws w′ → go true d (out k) (w ++ (stringBytes raw ++ w′)) ≡ some (out k)
 name-run {w} {raw} {us} {w′} d k b s b′ =
     join true d (out k) w _ (plains-run true d k w (ws-plains b))
-    (join true d (out k) (string-bytes raw) w′ (string-run d k s) (plains-run true d k w′ (ws-plains b′)))
+    (join true d (out k) (stringBytes raw) w′ (string-run d k s) (plains-run true d k w′ (ws-plains b′)))
 
 mutual
-  pub value-run : (a d k : ℕ) (v : Bare) → deep (bare-tree a v) + k ≤ 64 → d ≤ k → go true d (out k) (bare-bytes v) ≡ some (out k)
+  pub value-run : (a d k : ℕ) (v : Bare) → deep (bareTree a v) + k ≤ 64 → d ≤ k → go true d (out k) (bareBytes v) ≡ some (out k)
   value-run a d k Bare.false h l = refl
   value-run a d k Bare.null h l = refl
   value-run a d k Bare.true h l = refl
   value-run a d k (Bare.num {bs} n) h l = plains-run true d k bs (solids-plains bs (number-solids n))
   value-run a d k (Bare.string s) h l = string-run d k s
   value-run a d k (Bare.empty-array {w} b) h l = bracket d k 0x5D w l (omega arith) refl (plains-run true d (suc k) w (ws-plains b))
-  value-run a d k (Bare.array es) h l = bracket d k 0x5D (elems-bytes es) l (omega arith) refl (elems-run (suc a) d (suc k) es (omega arith) (omega arith))
+  value-run a d k (Bare.array es) h l = bracket d k 0x5D (elemsBytes es) l (omega arith) refl (elems-run (suc a) d (suc k) es (omega arith) (omega arith))
   value-run a d k (Bare.empty-object {w} b) h l = bracket d k 0x7D w l (omega arith) refl (plains-run true d (suc k) w (ws-plains b))
-  value-run a d k (Bare.object ms) h l = bracket d k 0x7D (entries-bytes ms) l (omega arith) refl (entries-run (suc a) d (suc k) ms (omega arith) (omega arith))
+  value-run a d k (Bare.object ms) h l = bracket d k 0x7D (entriesBytes ms) l (omega arith) refl (entries-run (suc a) d (suc k) ms (omega arith) (omega arith))
 
-  pub pad-run : (a d k : ℕ) (p : Pad) → deep (padded a p) + k ≤ 64 → d ≤ k → go true d (out k) (pad-bytes p) ≡ some (out k)
+  pub pad-run : (a d k : ℕ) (p : Pad) → deep (padded a p) + k ≤ 64 → d ≤ k → go true d (out k) (padBytes p) ≡ some (out k)
   pad-run a d k (Pad.pad {w} {w′} b v b′) h l =
       join true d (out k) w _ (plains-run true d k w (ws-plains b))
-      (join true d (out k) (bare-bytes v) w′ (value-run (a + length w) d k v h l) (plains-run true d k w′ (ws-plains b′)))
+      (join true d (out k) (bareBytes v) w′ (value-run (a + length w) d k v h l) (plains-run true d k w′ (ws-plains b′)))
 
-  pub elems-run : (a d k : ℕ) (es : Elems) → deep-items (pad-items a es) + k ≤ 64 → d < k → go true d (out k) (elems-bytes es) ≡ some (out k)
+  pub elems-run : (a d k : ℕ) (es : Elems) → deepItems (padItems a es) + k ≤ 64 → d < k → go true d (out k) (elemsBytes es) ≡ some (out k)
   elems-run a d k (Elems.last p) h l = pad-run a d k p (omega arith) (omega arith)
   elems-run a d k (Elems.more p es) h l =
-      join true d (out k) (pad-bytes p) _ (pad-run a d k p (omega arith) (omega arith))
-      (separate d k 0x2C (elems-bytes es) refl l (elems-run (suc (a + length (pad-bytes p))) d k es (omega arith) l))
+      join true d (out k) (padBytes p) _ (pad-run a d k p (omega arith) (omega arith))
+      (separate d k 0x2C (elemsBytes es) refl l (elems-run (suc (a + length (padBytes p))) d k es (omega arith) l))
 
-  pub entry-run : (a d k : ℕ) (m : Entry) (fs : Fields) → deep-fields (with-entry a m fs) + k ≤ 64 → d < k → go true d (out k) (entry-bytes m) ≡ some (out k)
+  pub entry-run : (a d k : ℕ) (m : Entry) (fs : Fields) → deepFields (withEntry a m fs) + k ≤ 64 → d < k → go true d (out k) (entryBytes m) ≡ some (out k)
   entry-run a d k (Entry.entry {w} {raw} {us} {w′} b s b′ p) fs h l =
-      join true d (out k) (w ++ (string-bytes raw ++ w′)) _ (name-run d k b s b′)
-      (separate d k 0x3A (pad-bytes p) refl l (pad-run (suc (a + length (w ++ (string-bytes raw ++ w′)))) d k p (omega arith) (omega arith)))
+      join true d (out k) (w ++ (stringBytes raw ++ w′)) _ (name-run d k b s b′)
+      (separate d k 0x3A (padBytes p) refl l (pad-run (suc (a + length (w ++ (stringBytes raw ++ w′)))) d k p (omega arith) (omega arith)))
 
-  pub entries-run : (a d k : ℕ) (ms : Entries) → deep-fields (pad-fields a ms) + k ≤ 64 → d < k → go true d (out k) (entries-bytes ms) ≡ some (out k)
-  entries-run a d k (Entries.last-entry m) h l = entry-run a d k m nil-fields h l
+  pub entries-run : (a d k : ℕ) (ms : Entries) → deepFields (padFields a ms) + k ≤ 64 → d < k → go true d (out k) (entriesBytes ms) ≡ some (out k)
+  entries-run a d k (Entries.last-entry m) h l = entry-run a d k m noFields h l
   entries-run a d k (Entries.more-entries m ms) h l =
-      join true d (out k) (entry-bytes m) _ (entry-run a d k m _ h l)
-      (separate d k 0x2C (entries-bytes ms) refl l
-      (entries-run (suc (a + length (entry-bytes m))) d k ms (omega (arith, deep-rest a m (pad-fields (suc (a + length (entry-bytes m))) ms))) l))
+      join true d (out k) (entryBytes m) _ (entry-run a d k m _ h l)
+      (separate d k 0x2C (entriesBytes ms) refl l
+      (entries-run (suc (a + length (entryBytes m))) d k ms (omega (arith, deep-rest a m (padFields (suc (a + length (entryBytes m))) ms))) l))

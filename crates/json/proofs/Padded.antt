@@ -6,8 +6,8 @@ use Prim.Native.Nat.{ℕ, suc, _+_}
 use native.Mathlib.Nat.{add-zero}
 use native.Mathlib.Omega.{arith}
 use lib.ListN.{length, length-append}
-use Rattle.json.specs.Grammar.{Ws, Structural, Number, Chars, string-bytes, Value, Object, Members, Member, Array, Values, JSON-text, ahead, behind, structural, value-bytes, object-bytes, members-bytes, member-bytes, array-bytes, values-bytes, text-bytes}
-use Rattle.json.specs.Select.{characters, Json, Items, nil, item, Fields, nil-fields, field, tree, object-tree, fields, with-member, array-tree, items, value-of}
+use Rattle.json.specs.Grammar.{Ws, Structural, Number, Chars, stringBytes, Value, Object, Members, Member, Array, Values, JSON-text, ahead, behind, structural, valueBytes, objectBytes, membersBytes, memberBytes, arrayBytes, valuesBytes, textBytes}
+use Rattle.json.specs.Select.{characters, Json, Items, noItems, item, Fields, noFields, field, tree, objectTree, fields, withMember, arrayTree, items, valueOf}
 
 mutual
   -- a value without blanks at its ends
@@ -36,57 +36,57 @@ mutual
     more-entries : Entry → Entries → Entries
 
 abbrev mutual
-  pub bare-bytes : Bare → List ℕ
-  bare-bytes Bare.false = value-bytes Value.false
-  bare-bytes Bare.null = value-bytes Value.null
-  bare-bytes Bare.true = value-bytes Value.true
-  bare-bytes (Bare.num {bs} n) = bs
-  bare-bytes (Bare.string {raw} s) = string-bytes raw
-  bare-bytes (Bare.empty-array {w} b) = 0x5B ∷ (w ++ (0x5D ∷ []))
-  bare-bytes (Bare.array es) = 0x5B ∷ (elems-bytes es ++ (0x5D ∷ []))
-  bare-bytes (Bare.empty-object {w} b) = 0x7B ∷ (w ++ (0x7D ∷ []))
-  bare-bytes (Bare.object ms) = 0x7B ∷ (entries-bytes ms ++ (0x7D ∷ []))
+  pub bareBytes : Bare → List ℕ
+  bareBytes Bare.false = valueBytes Value.false
+  bareBytes Bare.null = valueBytes Value.null
+  bareBytes Bare.true = valueBytes Value.true
+  bareBytes (Bare.num {bs} n) = bs
+  bareBytes (Bare.string {raw} s) = stringBytes raw
+  bareBytes (Bare.empty-array {w} b) = 0x5B ∷ (w ++ (0x5D ∷ []))
+  bareBytes (Bare.array es) = 0x5B ∷ (elemsBytes es ++ (0x5D ∷ []))
+  bareBytes (Bare.empty-object {w} b) = 0x7B ∷ (w ++ (0x7D ∷ []))
+  bareBytes (Bare.object ms) = 0x7B ∷ (entriesBytes ms ++ (0x7D ∷ []))
 
-  pub pad-bytes : Pad → List ℕ
-  pad-bytes (Pad.pad {w} {w′} b v b′) = w ++ (bare-bytes v ++ w′)
+  pub padBytes : Pad → List ℕ
+  padBytes (Pad.pad {w} {w′} b v b′) = w ++ (bareBytes v ++ w′)
 
-  pub elems-bytes : Elems → List ℕ
-  elems-bytes (Elems.last p) = pad-bytes p
-  elems-bytes (Elems.more p es) = pad-bytes p ++ (0x2C ∷ elems-bytes es)
+  pub elemsBytes : Elems → List ℕ
+  elemsBytes (Elems.last p) = padBytes p
+  elemsBytes (Elems.more p es) = padBytes p ++ (0x2C ∷ elemsBytes es)
 
-  pub entry-bytes : Entry → List ℕ
-  entry-bytes (Entry.entry {w} {raw} {us} {w′} b s b′ p) = (w ++ (string-bytes raw ++ w′)) ++ (0x3A ∷ pad-bytes p)
+  pub entryBytes : Entry → List ℕ
+  entryBytes (Entry.entry {w} {raw} {us} {w′} b s b′ p) = (w ++ (stringBytes raw ++ w′)) ++ (0x3A ∷ padBytes p)
 
-  pub entries-bytes : Entries → List ℕ
-  entries-bytes (Entries.last-entry m) = entry-bytes m
-  entries-bytes (Entries.more-entries m ms) = entry-bytes m ++ (0x2C ∷ entries-bytes ms)
+  pub entriesBytes : Entries → List ℕ
+  entriesBytes (Entries.last-entry m) = entryBytes m
+  entriesBytes (Entries.more-entries m ms) = entryBytes m ++ (0x2C ∷ entriesBytes ms)
 
 -- the nodes, the bytes beginning at place a
 abbrev mutual
-  pub bare-tree : ℕ → Bare → Json
-  bare-tree a Bare.false = Json.scalar a (value-bytes Value.false)
-  bare-tree a Bare.null = Json.scalar a (value-bytes Value.null)
-  bare-tree a Bare.true = Json.scalar a (value-bytes Value.true)
-  bare-tree a (Bare.num {bs} n) = Json.scalar a bs
-  bare-tree a (Bare.string {raw} s) = Json.scalar a (string-bytes raw)
-  bare-tree a (Bare.empty-array {w} b) = Json.array a (0x5B ∷ (w ++ (0x5D ∷ []))) nil
-  bare-tree a (Bare.array es) = Json.array a (0x5B ∷ (elems-bytes es ++ (0x5D ∷ []))) (pad-items (suc a) es)
-  bare-tree a (Bare.empty-object {w} b) = Json.object a (0x7B ∷ (w ++ (0x7D ∷ []))) nil-fields
-  bare-tree a (Bare.object ms) = Json.object a (0x7B ∷ (entries-bytes ms ++ (0x7D ∷ []))) (pad-fields (suc a) ms)
+  pub bareTree : ℕ → Bare → Json
+  bareTree a Bare.false = Json.scalar a (valueBytes Value.false)
+  bareTree a Bare.null = Json.scalar a (valueBytes Value.null)
+  bareTree a Bare.true = Json.scalar a (valueBytes Value.true)
+  bareTree a (Bare.num {bs} n) = Json.scalar a bs
+  bareTree a (Bare.string {raw} s) = Json.scalar a (stringBytes raw)
+  bareTree a (Bare.empty-array {w} b) = Json.array a (0x5B ∷ (w ++ (0x5D ∷ []))) noItems
+  bareTree a (Bare.array es) = Json.array a (0x5B ∷ (elemsBytes es ++ (0x5D ∷ []))) (padItems (suc a) es)
+  bareTree a (Bare.empty-object {w} b) = Json.object a (0x7B ∷ (w ++ (0x7D ∷ []))) noFields
+  bareTree a (Bare.object ms) = Json.object a (0x7B ∷ (entriesBytes ms ++ (0x7D ∷ []))) (padFields (suc a) ms)
 
   pub padded : ℕ → Pad → Json
-  padded a (Pad.pad {w} b v b′) = bare-tree (a + length w) v
+  padded a (Pad.pad {w} b v b′) = bareTree (a + length w) v
 
-  pub pad-items : ℕ → Elems → Items
-  pad-items a (Elems.last p) = item (padded a p) nil
-  pad-items a (Elems.more p es) = item (padded a p) (pad-items (suc (a + length (pad-bytes p))) es)
+  pub padItems : ℕ → Elems → Items
+  padItems a (Elems.last p) = item (padded a p) noItems
+  padItems a (Elems.more p es) = item (padded a p) (padItems (suc (a + length (padBytes p))) es)
 
-  pub with-entry : ℕ → Entry → Fields → Fields
-  with-entry a (Entry.entry {w} {raw} {us} {w′} b s b′ p) fs = field raw (characters us) (padded (suc (a + length (w ++ (string-bytes raw ++ w′)))) p) fs
+  pub withEntry : ℕ → Entry → Fields → Fields
+  withEntry a (Entry.entry {w} {raw} {us} {w′} b s b′ p) fs = field raw (characters us) (padded (suc (a + length (w ++ (stringBytes raw ++ w′)))) p) fs
 
-  pub pad-fields : ℕ → Entries → Fields
-  pad-fields a (Entries.last-entry m) = with-entry a m nil-fields
-  pad-fields a (Entries.more-entries m ms) = with-entry a m (pad-fields (suc (a + length (entry-bytes m))) ms)
+  pub padFields : ℕ → Entries → Fields
+  padFields a (Entries.last-entry m) = withEntry a m noFields
+  padFields a (Entries.more-entries m ms) = withEntry a m (padFields (suc (a + length (entryBytes m))) ms)
 
 -- ---- the form of a derivation
 
@@ -137,35 +137,35 @@ abbrev mutual
 
 -- ---- it derives the same bytes
 
-extend-bytes : {w w′ : List ℕ} (p : Pad) (b : Ws w) (b′ : Ws w′) → pad-bytes (extend p b b′) ≡ w ++ (pad-bytes p ++ w′)
+extend-bytes : {w w′ : List ℕ} (p : Pad) (b : Ws w) (b′ : Ws w′) → padBytes (extend p b b′) ≡ w ++ (padBytes p ++ w′)
 extend-bytes (Pad.pad c v c′) b b′ = simp append-assoc
 
 mutual
-  same-bytes : (v : Value) → pad-bytes (normal v) ≡ value-bytes v
+  same-bytes : (v : Value) → padBytes (normal v) ≡ valueBytes v
   same-bytes Value.false = refl
   same-bytes Value.null = refl
   same-bytes Value.true = refl
   same-bytes (Value.object o) = same-object o
   same-bytes (Value.array x) = same-array x
   same-bytes (Value.number {bs} n) = append-nil bs
-  same-bytes (Value.string {raw} s) = append-nil (string-bytes raw)
+  same-bytes (Value.string {raw} s) = append-nil (stringBytes raw)
 
-  same-object : (o : Object) → pad-bytes (normal-object o) ≡ object-bytes o
+  same-object : (o : Object) → padBytes (normal-object o) ≡ objectBytes o
   same-object (Object.no-members b e) = simp append-assoc
   same-object (Object.members b ms e) = rw (same-members ms (behind-ws b) (ahead-ws e)) (simp append-assoc)
 
-  same-members : (ms : Members) {w w′ : List ℕ} (b : Ws w) (b′ : Ws w′) → entries-bytes (normal-members ms b b′) ≡ w ++ (members-bytes ms ++ w′)
+  same-members : (ms : Members) {w w′ : List ℕ} (b : Ws w) (b′ : Ws w′) → entriesBytes (normal-members ms b b′) ≡ w ++ (membersBytes ms ++ w′)
   same-members (Members.one-member m) b b′ = same-member m b b′
   same-members (Members.more-members m s ms) b b′ = rw (same-member m b (ahead-ws s), same-members ms (behind-ws s) b′) (simp append-assoc)
 
-  same-member : (m : Member) {w w′ : List ℕ} (b : Ws w) (b′ : Ws w′) → entry-bytes (normal-member m b b′) ≡ w ++ (member-bytes m ++ w′)
+  same-member : (m : Member) {w w′ : List ℕ} (b : Ws w) (b′ : Ws w′) → entryBytes (normal-member m b b′) ≡ w ++ (memberBytes m ++ w′)
   same-member (Member.member c s v) b b′ = rw (extend-bytes (normal v) (behind-ws s) b′, same-bytes v) (simp append-assoc)
 
-  same-array : (x : Array) → pad-bytes (normal-array x) ≡ array-bytes x
+  same-array : (x : Array) → padBytes (normal-array x) ≡ arrayBytes x
   same-array (Array.no-values b e) = simp append-assoc
   same-array (Array.values b vs e) = rw (same-values vs (behind-ws b) (ahead-ws e)) (simp append-assoc)
 
-  same-values : (vs : Values) {w w′ : List ℕ} (b : Ws w) (b′ : Ws w′) → elems-bytes (normal-values vs b b′) ≡ w ++ (values-bytes vs ++ w′)
+  same-values : (vs : Values) {w w′ : List ℕ} (b : Ws w) (b′ : Ws w′) → elemsBytes (normal-values vs b b′) ≡ w ++ (valuesBytes vs ++ w′)
   same-values (Values.one-value v) b b′ = rw (extend-bytes (normal v) b b′, same-bytes v) refl
   same-values (Values.more-values v s vs) b b′ =
       rw (extend-bytes (normal v) b (ahead-ws s), same-bytes v, same-values vs (behind-ws s) b′) (simp append-assoc)
@@ -173,7 +173,7 @@ mutual
 -- ---- it has the same nodes at the same places
 
 extend-tree : {w w′ : List ℕ} (a : ℕ) (p : Pad) (b : Ws w) (b′ : Ws w′) → padded a (extend p b b′) ≡ padded (a + length w) p
-extend-tree {w} a (Pad.pad {w = x} c v c′) b b′ = ap (λ (i : ℕ). bare-tree i v) (omega (arith, length-append w x))
+extend-tree {w} a (Pad.pad {w = x} c v c′) b b′ = ap (λ (i : ℕ). bareTree i v) (omega (arith, length-append w x))
 
 module _ {c : ℕ} (s : Structural c) where
   structural-length : length (structural s) ≡ suc (length (ahead s) + length (behind s))
@@ -181,60 +181,60 @@ module _ {c : ℕ} (s : Structural c) where
 
 mutual
   same-tree : (a : ℕ) (v : Value) → padded a (normal v) ≡ tree a v
-  same-tree a Value.false = ap (λ (i : ℕ). Json.scalar i (value-bytes Value.false)) (add-zero a)
-  same-tree a Value.null = ap (λ (i : ℕ). Json.scalar i (value-bytes Value.null)) (add-zero a)
-  same-tree a Value.true = ap (λ (i : ℕ). Json.scalar i (value-bytes Value.true)) (add-zero a)
+  same-tree a Value.false = ap (λ (i : ℕ). Json.scalar i (valueBytes Value.false)) (add-zero a)
+  same-tree a Value.null = ap (λ (i : ℕ). Json.scalar i (valueBytes Value.null)) (add-zero a)
+  same-tree a Value.true = ap (λ (i : ℕ). Json.scalar i (valueBytes Value.true)) (add-zero a)
   same-tree a (Value.object o) = same-object-tree a o
   same-tree a (Value.array x) = same-array-tree a x
   same-tree a (Value.number {bs} n) = ap (λ (i : ℕ). Json.scalar i bs) (add-zero a)
-  same-tree a (Value.string {raw} s) = ap (λ (i : ℕ). Json.scalar i (string-bytes raw)) (add-zero a)
+  same-tree a (Value.string {raw} s) = ap (λ (i : ℕ). Json.scalar i (stringBytes raw)) (add-zero a)
 
-  same-object-tree : (a : ℕ) (o : Object) → padded a (normal-object o) ≡ object-tree a o
+  same-object-tree : (a : ℕ) (o : Object) → padded a (normal-object o) ≡ objectTree a o
   same-object-tree a (Object.no-members b e) = simp append-assoc
   same-object-tree a (Object.members b ms e) =
       rw (same-members ms (behind-ws b) (ahead-ws e), same-fields (suc (a + length (ahead b))) ms (behind-ws b) (ahead-ws e))
       (ap₂ (λ (bs : List ℕ) (i : ℕ). Json.object (a + length (ahead b)) (0x7B ∷ bs) (fields i ms)) (simp append-assoc) (omega (arith, structural-length b)))
 
-  same-fields : (a : ℕ) (ms : Members) {w w′ : List ℕ} (b : Ws w) (b′ : Ws w′) → pad-fields a (normal-members ms b b′) ≡ fields (a + length w) ms
-  same-fields a (Members.one-member m) b b′ = same-field a m b b′ nil-fields
+  same-fields : (a : ℕ) (ms : Members) {w w′ : List ℕ} (b : Ws w) (b′ : Ws w′) → padFields a (normal-members ms b b′) ≡ fields (a + length w) ms
+  same-fields a (Members.one-member m) b b′ = same-field a m b b′ noFields
   same-fields a (Members.more-members m s ms) {w} b b′ =
       same-field a m b (ahead-ws s) _
-      ∙ ap (with-member (a + length w) m)
+      ∙ ap (withMember (a + length w) m)
       (same-fields _ ms (behind-ws s) b′
       ∙ ap (λ (i : ℕ). fields i ms)
       (rw (same-member m b (ahead-ws s))
-      (omega (arith, structural-length s, length-append w (member-bytes m ++ ahead s), length-append (member-bytes m) (ahead s)))))
+      (omega (arith, structural-length s, length-append w (memberBytes m ++ ahead s), length-append (memberBytes m) (ahead s)))))
 
-  same-field : (a : ℕ) (m : Member) {w w′ : List ℕ} (b : Ws w) (b′ : Ws w′) (fs : Fields) → with-entry a (normal-member m b b′) fs ≡ with-member (a + length w) m fs
+  same-field : (a : ℕ) (m : Member) {w w′ : List ℕ} (b : Ws w) (b′ : Ws w′) (fs : Fields) → withEntry a (normal-member m b b′) fs ≡ withMember (a + length w) m fs
   same-field a (Member.member {raw} {us} c s v) {w} b b′ fs =
       ap (λ (t : Json). field raw (characters us) t fs)
       (extend-tree _ (normal v) (behind-ws s) b′ ∙ same-tree _ v
-      ∙ ap (λ (i : ℕ). tree i v) (omega (arith, structural-length s, length-append w (string-bytes raw ++ ahead s), length-append (string-bytes raw) (ahead s))))
+      ∙ ap (λ (i : ℕ). tree i v) (omega (arith, structural-length s, length-append w (stringBytes raw ++ ahead s), length-append (stringBytes raw) (ahead s))))
 
-  same-array-tree : (a : ℕ) (x : Array) → padded a (normal-array x) ≡ array-tree a x
+  same-array-tree : (a : ℕ) (x : Array) → padded a (normal-array x) ≡ arrayTree a x
   same-array-tree a (Array.no-values b e) = simp append-assoc
   same-array-tree a (Array.values b vs e) =
       rw (same-values vs (behind-ws b) (ahead-ws e), same-items (suc (a + length (ahead b))) vs (behind-ws b) (ahead-ws e))
       (ap₂ (λ (bs : List ℕ) (i : ℕ). Json.array (a + length (ahead b)) (0x5B ∷ bs) (items i vs)) (simp append-assoc) (omega (arith, structural-length b)))
 
-  same-items : (a : ℕ) (vs : Values) {w w′ : List ℕ} (b : Ws w) (b′ : Ws w′) → pad-items a (normal-values vs b b′) ≡ items (a + length w) vs
-  same-items a (Values.one-value v) {w} b b′ = ap (λ (t : Json). item t nil) (extend-tree a (normal v) b b′ ∙ same-tree (a + length w) v)
+  same-items : (a : ℕ) (vs : Values) {w w′ : List ℕ} (b : Ws w) (b′ : Ws w′) → padItems a (normal-values vs b b′) ≡ items (a + length w) vs
+  same-items a (Values.one-value v) {w} b b′ = ap (λ (t : Json). item t noItems) (extend-tree a (normal v) b b′ ∙ same-tree (a + length w) v)
   same-items a (Values.more-values v s vs) {w} b b′ =
       ap₂ item (extend-tree a (normal v) b (ahead-ws s) ∙ same-tree (a + length w) v)
       (same-items _ vs (behind-ws s) b′
       ∙ ap (λ (i : ℕ). items i vs)
       (rw (extend-bytes (normal v) b (ahead-ws s), same-bytes v)
-      (omega (arith, structural-length s, length-append w (value-bytes v ++ ahead s), length-append (value-bytes v) (ahead s)))))
+      (omega (arith, structural-length s, length-append w (valueBytes v ++ ahead s), length-append (valueBytes v) (ahead s)))))
 
 -- ---- a whole text
 
-pub padded-text : JSON-text → Pad
-padded-text (JSON-text.text b v b′) = extend (normal v) b b′
+pub paddedText : JSON-text → Pad
+paddedText (JSON-text.text b v b′) = extend (normal v) b b′
 
-pub text-same-bytes : (t : JSON-text) → pad-bytes (padded-text t) ≡ text-bytes t
-unfolding padded-text
+pub text-same-bytes : (t : JSON-text) → padBytes (paddedText t) ≡ textBytes t
+unfolding paddedText
 text-same-bytes (JSON-text.text b v b′) = rw (extend-bytes (normal v) b b′, same-bytes v) refl
 
-pub text-same-tree : (t : JSON-text) → padded 0 (padded-text t) ≡ value-of t
-unfolding padded-text
+pub text-same-tree : (t : JSON-text) → padded 0 (paddedText t) ≡ valueOf t
+unfolding paddedText
 text-same-tree (JSON-text.text {w} b v b′) = extend-tree 0 (normal v) b b′ ∙ same-tree _ v ∙ ap (λ (i : ℕ). tree i v) (omega arith)

@@ -26,20 +26,20 @@ use Rattle.query.proofs.PlaceLaws.{pick-ind}
 use Rattle.query.proofs.Reading.{reads}
 use Rattle.query.proofs.Inside.{In as Within, InItem, value-in, step-in}
 use Rattle.json.specs.Grammar.{Text}
-use Rattle.json.specs.Select.{Json, value-of, first-of, bytes-of, children, flat, segments, select, deep, Fair}
+use Rattle.json.specs.Select.{Json, valueOf, firstOf, bytesOf, children, flat, segments, select, deep, Fair}
 use Rattle.json.specs.Demand2.{Obeys, root, Asked, Selects, Claim}
-use Rattle.json.proofs.Padded.{Bare, Pad, bare-bytes, pad-bytes, bare-tree, padded, padded-text, text-same-bytes, text-same-tree}
+use Rattle.json.proofs.Padded.{Bare, Pad, bareBytes, padBytes, bareTree, padded, paddedText, text-same-bytes, text-same-tree}
 use Rattle.json.proofs.Trace.{at-start, Seg}
 use Rattle.json.proofs.Stretches.{seg-at, seg-self}
 use Rattle.json.proofs.Values.{value-ends, Good, Hit, pad-hit}
 use Rattle.json.proofs.Steps.{Outcome, step-right}
 use Rattle.json.proofs.Agree.{walk-promised}
-use Rattle.json.proofs.Names.{Ascii, Plain-name, raw-children, children-same, All-fair, children-fair}
+use Rattle.json.proofs.Names.{Ascii, PlainName, rawChildren, children-same, AllFair, children-fair}
 use Rattle.json.proofs.Verdicts.{text-sound}
 
 -- ---- a node and its part
 
-first-tree : (a : ℕ) (v : Bare) → first-of (bare-tree a v) ≡ a
+first-tree : (a : ℕ) (v : Bare) → firstOf (bareTree a v) ≡ a
 first-tree a Bare.false = refl
 first-tree a Bare.null = refl
 first-tree a Bare.true = refl
@@ -50,7 +50,7 @@ first-tree a (Bare.array es) = refl
 first-tree a (Bare.empty-object b) = refl
 first-tree a (Bare.object ms) = refl
 
-bytes-tree : (a : ℕ) (v : Bare) → bytes-of (bare-tree a v) ≡ bare-bytes v
+bytes-tree : (a : ℕ) (v : Bare) → bytesOf (bareTree a v) ≡ bareBytes v
 bytes-tree a Bare.false = refl
 bytes-tree a Bare.null = refl
 bytes-tree a Bare.true = refl
@@ -70,10 +70,10 @@ seg-part text a bs g h =
     (ext-getD 0 (take (length bs) (drop a text)) bs l
     (λ i m. getD-take (length bs) (drop a text) i 0 (omega (arith, l)) ∙ getD-drop a text i 0 ∙ seg-at text a bs i g (omega (arith, l))))
 
-one-part : (text : List ℕ) (t : Json) (a : ℕ) (bs : List ℕ) → first-of t ≡ a → bytes-of t ≡ bs → partOf text (Found a (a + length bs)) ≡ bs
+one-part : (text : List ℕ) (t : Json) (a : ℕ) (bs : List ℕ) → firstOf t ≡ a → bytesOf t ≡ bs → partOf text (Found a (a + length bs)) ≡ bs
     → Selects text (t ∷ []) (Found a (a + length bs))
 one-part text t a bs e f g =
-    let h : Selects text (t ∷ []) (Found (first-of t) (first-of t + length (bytes-of t))) = Selects.one t (rw (e, f) g) in
+    let h : Selects text (t ∷ []) (Found (firstOf t) (firstOf t + length (bytesOf t))) = Selects.one t (rw (e, f) g) in
     rw (e, f) at h
 
 -- ---- along a path, by any selection that at derived values takes what the walk takes
@@ -95,43 +95,43 @@ along-none kids [] = refl
 along-none kids (s ∷ ss) = along-none kids ss
 
 module _ (text : List ℕ) (kids : Selector → Json → List Json) (P : Json → Type 0) (Q : Selector → Type 0)
-    (agree : (s : Selector) (a : ℕ) (v : Bare) → Q s → P (bare-tree a v) → raw-children s (bare-tree a v) ≡ kids s (bare-tree a v))
+    (agree : (s : Selector) (a : ℕ) (v : Bare) → Q s → P (bareTree a v) → rawChildren s (bareTree a v) ≡ kids s (bareTree a v))
     (keeps : (s : Selector) (t : Json) → P t → All P (kids s t)) where
-  walked : (ss : List Selector) (k a : ℕ) (v : Bare) → Each Q ss → P (bare-tree a v) → Good text k a v → a + length (bare-bytes v) ≤ length text
-      → Selects text (along kids ss (bare-tree a v ∷ [])) (walkFrom (byteIn text) (ruled text) (suc k) ss a (a + length (bare-bytes v)))
+  walked : (ss : List Selector) (k a : ℕ) (v : Bare) → Each Q ss → P (bareTree a v) → Good text k a v → a + length (bareBytes v) ≤ length text
+      → Selects text (along kids ss (bareTree a v ∷ [])) (walkFrom (byteIn text) (ruled text) (suc k) ss a (a + length (bareBytes v)))
   unfolding walkFrom
-  walked [] k a v q p g l = one-part text (bare-tree a v) a (bare-bytes v) (first-tree a v) (bytes-tree a v) (seg-part text a (bare-bytes v) (g .seg) l)
+  walked [] k a v q p g l = one-part text (bareTree a v) a (bareBytes v) (first-tree a v) (bytes-tree a v) (seg-part text a (bareBytes v) (g .seg) l)
   walked (s ∷ ss) k a v q p g l =
-      go (rw (agree s a v (q .0) p) at (step-right text k s a v g)) (keeps s (bare-tree a v) p) (step-in (byteIn text) (ruled text) (length text) (suc k) s a _ l)
+      go (rw (agree s a v (q .0) p) at (step-right text k s a v g)) (keeps s (bareTree a v) p) (step-in (byteIn text) (ruled text) (length text) (suc k) s a _ l)
       (λ a v p g l. walked ss (suc k) a v (q .1) p g l)
     where
-      go : {x : Answer} → Outcome text (suc k) (kids s (bare-tree a v)) x → All P (kids s (bare-tree a v)) → Within (length text) x
-          → ((a : ℕ) (v : Bare) → P (bare-tree a v) → Good text (suc k) a v → a + length (bare-bytes v) ≤ length text
-          → Selects text (along kids ss (bare-tree a v ∷ [])) (walkFrom (byteIn text) (ruled text) (suc (suc k)) ss a (a + length (bare-bytes v))))
-          → Selects text (along kids ss (flat (kids s) (bare-tree a v ∷ []))) (onFound x (λ b f. walkFrom (byteIn text) (ruled text) (suc k + 1) ss b f) Refused)
+      go : {x : Answer} → Outcome text (suc k) (kids s (bareTree a v)) x → All P (kids s (bareTree a v)) → Within (length text) x
+          → ((a : ℕ) (v : Bare) → P (bareTree a v) → Good text (suc k) a v → a + length (bareBytes v) ≤ length text
+          → Selects text (along kids ss (bareTree a v ∷ [])) (walkFrom (byteIn text) (ruled text) (suc (suc k)) ss a (a + length (bareBytes v))))
+          → Selects text (along kids ss (flat (kids s) (bareTree a v ∷ []))) (onFound x (λ b f. walkFrom (byteIn text) (ruled text) (suc k + 1) ss b f) Refused)
       go (Outcome.miss why h e f) p i r = rw (e, f, along-none kids ss) (Selects.none h)
       go (Outcome.hit a v e f g) p i r =
-          let pa : P (bare-tree a v) × Unit {0} = rw e at p in
-          let fits : Within (length text) (Found a (a + length (bare-bytes v))) = rw f at i in
+          let pa : P (bareTree a v) × Unit {0} = rw e at p in
+          let fits : Within (length text) (Found a (a + length (bareBytes v))) = rw f at i in
           rw (e, f, append-nil, add-one) (r a v (pa .0) g (fits .1))
 
 -- the whole text is a value and blanks
-whole : (text : List ℕ) (t : Text text) → deep (value-of (t .derivation)) ≤ 64 → Hit text 0 (value-of (t .derivation)) (valueAt (byteIn text) 0 (length text))
+whole : (text : List ℕ) (t : Text text) → deep (valueOf (t .derivation)) ≤ 64 → Hit text 0 (valueOf (t .derivation)) (valueAt (byteIn text) 0 (length text))
 whole text t d =
-    let p : Pad = padded-text (t .derivation) in
-    let e : pad-bytes p ≡ text = text-same-bytes (t .derivation) ∙ t .derives in
+    let p : Pad = paddedText (t .derivation) in
+    let e : padBytes p ≡ text = text-same-bytes (t .derivation) ∙ t .derives in
     let low : deep (padded 0 p) + 0 ≤ 64 = rw (add-zero, text-same-tree (t .derivation)) d in
-    let h : Hit text 0 (padded 0 p) (valueAt (byteIn text) 0 (0 + length (pad-bytes p))) = pad-hit text 0 0 p (rw e (seg-self text)) (at-start text) low in
+    let h : Hit text 0 (padded 0 p) (valueAt (byteIn text) 0 (0 + length (padBytes p))) = pad-hit text 0 0 p (rw e (seg-self text)) (at-start text) low in
     rw (zero-add, e, text-same-tree (t .derivation)) at h
 
 module _ (text : List ℕ) (kids : Selector → Json → List Json) (P : Json → Type 0) (Q : Selector → Type 0)
-    (agree : (s : Selector) (a : ℕ) (v : Bare) → Q s → P (bare-tree a v) → raw-children s (bare-tree a v) ≡ kids s (bare-tree a v))
+    (agree : (s : Selector) (a : ℕ) (v : Bare) → Q s → P (bareTree a v) → rawChildren s (bareTree a v) ≡ kids s (bareTree a v))
     (keeps : (s : Selector) (t : Json) → P t → All P (kids s t)) where
   from-whole : (x : Json) (ss : List Selector) → Each Q ss → P x → Hit text 0 x (valueAt (byteIn text) 0 (length text)) → Selects text (along kids ss (x ∷ [])) (walk text (ruled text) ss)
   unfolding walk
   from-whole x ss q p h =
       let fits = value-in (byteIn text) 0 (length text) (length text) (omega arith) (omega arith) in
-      let f : InItem (length text) (Items.Found (h .place) (h .place + length (bare-bytes (h .value)))) = rw (h .is-part) at fits in
+      let f : InItem (length text) (Items.Found (h .place) (h .place + length (bareBytes (h .value)))) = rw (h .is-part) at fits in
       rw (h .is-tree, h .is-part) (walked text kids P Q agree keeps ss 0 (h .place) (h .value) q (rw (h .is-tree) at p) (h .good) (f .1))
 
 -- ---- the steps of the subset's paths have ASCII names
@@ -149,12 +149,12 @@ rest-ascii (Rest.digit h r) = (omega arith, rest-ascii r)
 name-ascii : {n : List ℕ} → Name n → Ascii n
 name-ascii (Name.starts l r) = (letter-ascii l, rest-ascii r)
 
-steps-plain : {bs : List ℕ} {ss : List Selector} → Steps bs ss → Each Plain-name ss
+steps-plain : {bs : List ℕ} {ss : List Selector} → Steps bs ss → Each PlainName ss
 steps-plain Steps.none = tt
 steps-plain (Steps.dot n s) = (name-ascii n, steps-plain s)
 steps-plain (Steps.bracket d s) = (tt, steps-plain s)
 
-path-plain : {bs : List ℕ} {ss : List Selector} → Path bs ss → Each Plain-name ss
+path-plain : {bs : List ℕ} {ss : List Selector} → Path bs ss → Each PlainName ss
 path-plain (Path.root s) = steps-plain s
 
 -- ---- by the rules' bits
@@ -164,14 +164,14 @@ along-segments : (ss : List Selector) (ts : List Json) → along children ss ts 
 along-segments [] ts = refl
 along-segments (s ∷ ss) ts = along-segments ss (flat (children s) ts)
 
-all-fair : (ts : List Json) → All-fair ts → All Fair ts
+all-fair : (ts : List Json) → AllFair ts → All Fair ts
 all-fair [] h = tt
 all-fair (t ∷ ts) h = (h .0, all-fair ts (h .1))
 
 walk-selects : (text : List ℕ) (t : Obeys text) (path : List ℕ) (ss : List Selector) → Path path ss → Selects text (select ss (root t)) (walk text (ruled text) ss)
 walk-selects text t path ss p =
     rw (along-segments ss (root t ∷ [])) at
-    (from-whole text children Fair Plain-name children-same (λ s x h. all-fair (children s x) (children-fair s x h)) (root t) ss (path-plain p) (t .fair)
+    (from-whole text children Fair PlainName children-same (λ s x h. all-fair (children s x) (children-fair s x h)) (root t) ss (path-plain p) (t .fair)
     (whole text (t .json) (t .shallow)))
 
 -- whatever the names: no broken item
@@ -187,24 +187,24 @@ selects-number : {text : List ℕ} {ts : List Json} {x : Answer} → Selects tex
 selects-number (Selects.one t e) = omega arith
 selects-number (Selects.none h) = λ e. omega (arith, e)
 
-walk-unbroken : (text : List ℕ) (t : Text text) → deep (value-of (t .derivation)) ≤ 64 → (ss : List Selector) → numberOf (walk text (ruled text) ss) ≢ 27
+walk-unbroken : (text : List ℕ) (t : Text text) → deep (valueOf (t .derivation)) ≤ 64 → (ss : List Selector) → numberOf (walk text (ruled text) ss) ≢ 27
 walk-unbroken text t d ss =
     selects-number
-    (from-whole text raw-children (λ _. Unit {0}) (λ _. Unit {0}) (λ s a v q p. refl) (λ s x h. all-true (raw-children s x)) (value-of (t .derivation)) ss
+    (from-whole text rawChildren (λ _. Unit {0}) (λ _. Unit {0}) (λ s a v q p. refl) (λ s x h. all-true (rawChildren s x)) (valueOf (t .derivation)) ss
     (each-true ss) tt (whole text t d))
 
 -- ---- by lent words: the checks in their order, then the walk
 
 value-some : (text : List ℕ) (t : Text text) → 1 ≤ length text
-value-some text t = rw (← e) (some (padded-text (t .derivation)))
+value-some text t = rw (← e) (some (paddedText (t .derivation)))
   where
-    e : pad-bytes (padded-text (t .derivation)) ≡ text
+    e : padBytes (paddedText (t .derivation)) ≡ text
     e = text-same-bytes (t .derivation) ∙ t .derives
 
-    some : (p : Pad) → 1 ≤ length (pad-bytes p)
+    some : (p : Pad) → 1 ≤ length (padBytes p)
     some (Pad.pad {w} {w′} b v b′) =
-        let h = value-ends (bare-bytes v) 0 v (seg-self (bare-bytes v)) in
-        omega (arith, length-append w (bare-bytes v ++ w′), length-append (bare-bytes v) w′, h .size)
+        let h = value-ends (bareBytes v) 0 v (seg-self (bareBytes v)) in
+        omega (arith, length-append w (bareBytes v ++ w′), length-append (bareBytes v) w′, h .size)
 
 selected : (text words : List ℕ) (levels : ℕ) (path : List ℕ) (ss : List Selector) (t : Obeys text) → Asked text words levels path ss
     → Selects text (select ss (root t)) (answerOf text words levels path)
@@ -213,18 +213,18 @@ selected text words levels path ss t x =
     rw (
       ne-eqb (length text) 0 (omega (arith, value-some text (t .json))),
       le-ltb 16777216 (length text) (x .size),
-      le-leb 1 levels (x .levels-in .low),
-      le-leb levels 16 (x .levels-in .high),
+      le-leb 1 levels (x .range .low),
+      le-leb levels 16 (x .range .high),
       eq-eqb (length words) (sizeOf levels (length text)) (x .promised .long),
       le-ltb 1024 (length path) (x .short),
-      reads (x .is-path),
+      reads (x .derived),
       x .small,
       le-ltb levels (length ss) (x .enough),
       walk-promised text levels words ss (x .promised) (x .enough),
     )
-    (walk-selects text t path ss (x .is-path))
+    (walk-selects text t path ss (x .derived))
 
-unbroken : (text words : List ℕ) (levels : ℕ) (path : List ℕ) (t : Text text) → deep (value-of (t .derivation)) ≤ 64 → Promise text levels words
+unbroken : (text words : List ℕ) (levels : ℕ) (path : List ℕ) (t : Text text) → deep (valueOf (t .derivation)) ≤ 64 → Promise text levels words
     → numberOf (answerOf text words levels path) ≢ 27
 unfolding answerOf
 unbroken text words levels path t d p =

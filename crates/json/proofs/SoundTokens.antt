@@ -214,13 +214,13 @@ short-sound b e =
     λ e. either (eqb b 0x72) _ e (λ h. (0x0D, rw (eqb-true b 0x72 h) Short.carriage-return))
     λ h. (0x09, rw (eqb-true b 0x74 h) Short.tab)
 
-abbrev A-char : List ℕ → Type 0
-A-char bs = (u : ℕ) × Char bs u
+abbrev Charred : List ℕ → Type 0
+Charred bs = (u : ℕ) × Char bs u
 
-large : {bs : List ℕ} {u : ℕ} → UTF8-char bs u → In 0x5D 0x10FFFF u → A-char bs
+large : {bs : List ℕ} {u : ℕ} → UTF8-char bs u → In 0x5D 0x10FFFF u → Charred bs
 large {u} c h = (u, Char.unescaped c (Unescaped.high h))
 
-escape-sound : (bs : List ℕ) {r : List ℕ} → escape bs ≡ some r → Reads A-char (0x5C ∷ bs) r
+escape-sound : (bs : List ℕ) {r : List ℕ} → escape bs ≡ some r → Reads Charred (0x5C ∷ bs) r
 unfolding escape
 escape-sound [] e = nothing e
 escape-sound (b ∷ bs) {r} e =
@@ -243,7 +243,7 @@ escape-sound (b ∷ bs) {r} e =
 lead : (c b : ℕ) → within c c b ≡ true → b ≡ c
 lead c b e = let h = within-in c c b e in omega (arith, h .low, h .high)
 
-wide-sound : (b : ℕ) (bs : List ℕ) {r : List ℕ} → wide b bs ≡ some r → Reads A-char (b ∷ bs) r
+wide-sound : (b : ℕ) (bs : List ℕ) {r : List ℕ} → wide b bs ≡ some r → Reads Charred (b ∷ bs) r
 unfolding wide
 wide-sound b bs {r} e =
     by-test (within 0xC2 0xDF b) (tail bs) _ e
@@ -265,14 +265,14 @@ wide-sound b bs {r} e =
     λ _ e. by-test (within 0xF4 0xF4 b) _ none e (λ h e. four 0x80 0x8F e (λ x y z i j l. rw (lead 0xF4 b h) (large (UTF8-char.utf8-4c i j l) (omega arith))))
     λ _ e. nothing e
   where
-    three : (lo hi : ℕ) → then (byte lo hi bs) tail ≡ some r → ((x y : ℕ) → In lo hi x → In 0x80 0xBF y → A-char (b ∷ x ∷ y ∷ [])) → Reads A-char (b ∷ bs) r
+    three : (lo hi : ℕ) → then (byte lo hi bs) tail ≡ some r → ((x y : ℕ) → In lo hi x → In 0x80 0xBF y → Charred (b ∷ x ∷ y ∷ [])) → Reads Charred (b ∷ bs) r
     three lo hi e f = by-then (byte lo hi bs) tail e λ m h k.
         let x = byte-sound lo hi bs h in
         let y = byte-sound 0x80 0xBF m k in
         record { part = b ∷ x .first ∷ y .first ∷ []; is = f (x .first) (y .first) (x .is) (y .is); whole = ahead b (x .whole ∙ ahead (x .first) (y .whole)) }
 
     four : (lo hi : ℕ) → then (byte lo hi bs) (λ r. then (tail r) tail) ≡ some r
-        → ((x y z : ℕ) → In lo hi x → In 0x80 0xBF y → In 0x80 0xBF z → A-char (b ∷ x ∷ y ∷ z ∷ [])) → Reads A-char (b ∷ bs) r
+        → ((x y z : ℕ) → In lo hi x → In 0x80 0xBF y → In 0x80 0xBF z → Charred (b ∷ x ∷ y ∷ z ∷ [])) → Reads Charred (b ∷ bs) r
     four lo hi e f = by-then (byte lo hi bs) _ e λ m h e. by-then (tail m) tail e λ n g k.
         let x = byte-sound lo hi bs h in
         let y = byte-sound 0x80 0xBF m g in
@@ -291,7 +291,7 @@ plain-char b h f g = low (decLe b 0x21) (decLe b 0x5B)
     low (no i) (yes j) = Unescaped.middle {u = b} (omega arith)
     low (no i) (no j) = Unescaped.high {u = b} (omega arith)
 
-char-sound : (b : ℕ) (bs : List ℕ) {r : List ℕ} → eqb b 0x22 ≡ false → char b bs ≡ some r → Reads A-char (b ∷ bs) r
+char-sound : (b : ℕ) (bs : List ℕ) {r : List ℕ} → eqb b 0x22 ≡ false → char b bs ≡ some r → Reads Charred (b ∷ bs) r
 unfolding char
 char-sound b bs {r} q e =
     by-test (eqb b 0x5C) (escape bs) _ e (λ h k. rw (eqb-true b 0x5C h) (escape-sound bs k))

@@ -8,28 +8,28 @@ use native.Mathlib.Omega.{arith}
 use borrow.Author.Tests.{eqb-true}
 use lib.Dec.{eqb}
 use lib.ListN.{length}
-use Rattle.json.specs.Grammar.{Ws, Structural, Value, Object, Members, Member, Array, Values, JSON-text, Text, value-bytes, members-bytes, values-bytes}
+use Rattle.json.specs.Grammar.{Ws, Structural, Value, Object, Members, Member, Array, Values, JSON-text, Text, valueBytes, membersBytes, valuesBytes}
 use Rattle.json.proofs.Recogniser.{Rest, then, byte, skip, number, string, Kind, a-value, elements, members, closed, next, rule, read, ended, accepts}
 use Rattle.json.proofs.SoundTokens.{ahead, before, nothing, by-test, by-then, exactly, literal-sound, skip-sound, number-sound, chars-sound}
 
-record A-value (bs r : List ℕ) : Type 0 where
+record Valued (bs r : List ℕ) : Type 0 where
   value : Value
-  whole : bs ≡ value-bytes value ++ r
+  whole : bs ≡ valueBytes value ++ r
 
 record Elements (bs r : List ℕ) : Type 0 where
   values : Values
   blanks : List ℕ
   are : Ws blanks
-  whole : bs ≡ values-bytes values ++ (blanks ++ (0x5D ∷ r))
+  whole : bs ≡ valuesBytes values ++ (blanks ++ (0x5D ∷ r))
 
 record Entries (bs r : List ℕ) : Type 0 where
   members : Members
   blanks : List ℕ
   are : Ws blanks
-  whole : bs ≡ members-bytes members ++ (blanks ++ (0x7D ∷ r))
+  whole : bs ≡ membersBytes members ++ (blanks ++ (0x7D ∷ r))
 
 abbrev Derives : Kind → List ℕ → List ℕ → Type 0
-Derives a-value = A-value
+Derives a-value = Valued
 Derives elements = Elements
 Derives members = Entries
 
@@ -47,7 +47,7 @@ by-next c f (b ∷ bs) {r} e g h =
     λ _ e. by-test (eqb b 0x2C) _ none e (λ i j. h bs (ap (λ (x : ℕ). x ∷ bs) (eqb-true b 0x2C i)) j) (λ i j. nothing j)
 
 module _ (f : Kind → List ℕ → Rest) (ih : (k : Kind) (bs r : List ℕ) → f k bs ≡ some r → Derives k bs r) where
-  array-sound : (bs : List ℕ) {r : List ℕ} → closed 0x5D (f elements) (skip bs) ≡ some r → A-value (0x5B ∷ bs) r
+  array-sound : (bs : List ℕ) {r : List ℕ} → closed 0x5D (f elements) (skip bs) ≡ some r → Valued (0x5B ∷ bs) r
   array-sound bs {r} e =
       let s = skip-sound bs in
       by-closed 0x5D (f elements) (skip bs) e
@@ -59,10 +59,10 @@ module _ (f : Kind → List ℕ → Rest) (ih : (k : Kind) (bs r : List ℕ) →
       let d = ih elements (skip bs) r h in
       record {
         value = Value.array (Array.values (Structural.around Ws.none (s .is)) (d .values) (Structural.around (d .are) Ws.none));
-        whole = ahead 0x5B (s .whole ∙ before (s .part) (d .whole ∙ simp append-assoc) ∙ sym (append-assoc (s .part) (values-bytes (d .values) ++ (d .blanks ++ (0x5D ∷ []))) r));
+        whole = ahead 0x5B (s .whole ∙ before (s .part) (d .whole ∙ simp append-assoc) ∙ sym (append-assoc (s .part) (valuesBytes (d .values) ++ (d .blanks ++ (0x5D ∷ []))) r));
       })
 
-  object-sound : (bs : List ℕ) {r : List ℕ} → closed 0x7D (f members) (skip bs) ≡ some r → A-value (0x7B ∷ bs) r
+  object-sound : (bs : List ℕ) {r : List ℕ} → closed 0x7D (f members) (skip bs) ≡ some r → Valued (0x7B ∷ bs) r
   object-sound bs {r} e =
       let s = skip-sound bs in
       by-closed 0x7D (f members) (skip bs) e
@@ -74,10 +74,10 @@ module _ (f : Kind → List ℕ → Rest) (ih : (k : Kind) (bs r : List ℕ) →
       let d = ih members (skip bs) r h in
       record {
         value = Value.object (Object.members (Structural.around Ws.none (s .is)) (d .members) (Structural.around (d .are) Ws.none));
-        whole = ahead 0x7B (s .whole ∙ before (s .part) (d .whole ∙ simp append-assoc) ∙ sym (append-assoc (s .part) (members-bytes (d .members) ++ (d .blanks ++ (0x7D ∷ []))) r));
+        whole = ahead 0x7B (s .whole ∙ before (s .part) (d .whole ∙ simp append-assoc) ∙ sym (append-assoc (s .part) (membersBytes (d .members) ++ (d .blanks ++ (0x7D ∷ []))) r));
       })
 
-  value-sound : (bs r : List ℕ) → rule f a-value bs ≡ some r → A-value bs r
+  value-sound : (bs r : List ℕ) → rule f a-value bs ≡ some r → Valued bs r
   unfolding rule string
   value-sound [] r e = nothing e
   value-sound (b ∷ bs) r e =
@@ -98,7 +98,7 @@ module _ (f : Kind → List ℕ → Rest) (ih : (k : Kind) (bs r : List ℕ) →
       let v = ih a-value bs m h in
       let s = skip-sound m in
       by-next 0x5D (f elements) (skip m) e
-      (λ k. record { values = Values.one-value (v .value); blanks = s .part; are = s .is; whole = v .whole ∙ before (value-bytes (v .value)) (s .whole ∙ before (s .part) k) })
+      (λ k. record { values = Values.one-value (v .value); blanks = s .part; are = s .is; whole = v .whole ∙ before (valueBytes (v .value)) (s .whole ∙ before (s .part) k) })
       λ n k j.
       let s′ = skip-sound n in
       let d = ih elements (skip n) r j in
@@ -106,7 +106,7 @@ module _ (f : Kind → List ℕ → Rest) (ih : (k : Kind) (bs r : List ℕ) →
         values = Values.more-values (v .value) (Structural.around (s .is) (s′ .is)) (d .values);
         blanks = d .blanks;
         are = d .are;
-        whole = v .whole ∙ before (value-bytes (v .value)) (s .whole ∙ before (s .part) (k ∙ ahead 0x2C (s′ .whole ∙ before (s′ .part) (d .whole)))) ∙ simp append-assoc;
+        whole = v .whole ∙ before (valueBytes (v .value)) (s .whole ∙ before (s .part) (k ∙ ahead 0x2C (s′ .whole ∙ before (s′ .part) (d .whole)))) ∙ simp append-assoc;
       }
 
   members-sound : (bs r : List ℕ) → rule f members bs ≡ some r → Entries bs r
@@ -120,9 +120,9 @@ module _ (f : Kind → List ℕ → Rest) (ih : (k : Kind) (bs r : List ℕ) →
       let v = ih a-value (skip m₃) m₄ h₄ in
       let s₄ = skip-sound m₄ in
       let m : Member = Member.member (c .is) (Structural.around (s₂ .is) (s₃ .is)) (v .value) in
-      let start : bs ≡ 0x22 ∷ (c .raw ++ (0x22 ∷ (s₂ .part ++ (0x3A ∷ (s₃ .part ++ (value-bytes (v .value) ++ (s₄ .part ++ skip m₄))))))) =
+      let start : bs ≡ 0x22 ∷ (c .raw ++ (0x22 ∷ (s₂ .part ++ (0x3A ∷ (s₃ .part ++ (valueBytes (v .value) ++ (s₄ .part ++ skip m₄))))))) =
       exactly 0x22 bs h₁ ∙ ahead 0x22 (c .whole ∙ before (c .raw) (ahead 0x22 (s₂ .whole ∙ before (s₂ .part) (exactly 0x3A (skip m₂) h₃
-      ∙ ahead 0x3A (s₃ .whole ∙ before (s₃ .part) (v .whole ∙ before (value-bytes (v .value)) (s₄ .whole))))))) in
+      ∙ ahead 0x3A (s₃ .whole ∙ before (s₃ .part) (v .whole ∙ before (valueBytes (v .value)) (s₄ .whole))))))) in
       by-next 0x7D (f members) (skip m₄) e
       (λ k. record { members = Members.one-member m; blanks = s₄ .part; are = s₄ .is; whole = rw k at start ∙ simp append-assoc })
       λ n k j.
@@ -162,5 +162,5 @@ accepted-text bs e = go (read (suc (length bs + length bs)) a-value (skip bs)) r
         let t = skip-sound r in
         record {
           derivation = JSON-text.text (s .is) (v .value) (t .is);
-          derives = sym (s .whole ∙ before (s .part) (v .whole ∙ before (value-bytes (v .value)) (t .whole ∙ before (t .part) (last (skip r) e) ∙ append-nil (t .part))));
+          derives = sym (s .whole ∙ before (s .part) (v .whole ∙ before (valueBytes (v .value)) (t .whole ∙ before (t .part) (last (skip r) e) ∙ append-nil (t .part))));
         }

@@ -22,23 +22,23 @@ use Rattle.query.specs.declared.types.Answer.the-variants.{Found, Refused}
 use Rattle.query.specs.declared.types.Refusal.{Refusal}
 use Rattle.query.specs.declared.types.Refusal.the-variants.{NotObject, NotArray, NoName, NoNumber}
 use Rattle.query.proofs.PlaceLaws.{first-at}
-use Rattle.json.specs.Grammar.{Ws, Number, string-bytes}
+use Rattle.json.specs.Grammar.{Ws, Number, stringBytes}
 use Rattle.json.specs.Select.{Json, scalar}
-use Rattle.json.proofs.Padded.{Bare, Pad, Elems, Entry, Entries, bare-bytes, pad-bytes, elems-bytes, entry-bytes, entries-bytes, bare-tree}
+use Rattle.json.proofs.Padded.{Bare, Pad, Elems, Entry, Entries, bareBytes, padBytes, elemsBytes, entryBytes, entriesBytes, bareTree}
 use Rattle.json.proofs.Machine.{up, sortOf, out}
 use Rattle.json.proofs.Derive.{Solids, number-solids, number-first}
 use Rattle.json.proofs.Trace.{At, Stepped, at-step, Seg}
 use Rattle.json.proofs.Stretches.{seg-left, seg-right}
 use Rattle.json.proofs.Parts.{Ends, ws-blank, all-blank}
 use Rattle.json.proofs.Values.{snoc-length, bracket-ends, value-ends, Good, Taken, none, one}
-use Rattle.json.proofs.Elements.{commas-of, number-taken}
+use Rattle.json.proofs.Elements.{commasOf, number-taken}
 use Rattle.json.proofs.Members.{names-taken}
-use Rattle.json.proofs.Names.{raw-children}
+use Rattle.json.proofs.Names.{rawChildren}
 
 -- what is taken from a node, and what the step answers
 pub data Outcome (text : List ℕ) (k : ℕ) (ts : List Json) (x : Answer) : Type 0 where
   miss : (why : Refusal) → In 23 26 (refusalNumber why) → ts ≡ [] → x ≡ Refused why → Outcome text k ts x
-  hit : (a : ℕ) (v : Bare) → ts ≡ bare-tree a v ∷ [] → x ≡ Found a (a + length (bare-bytes v)) → Good text k a v → Outcome text k ts x
+  hit : (a : ℕ) (v : Bare) → ts ≡ bareTree a v ∷ [] → x ≡ Found a (a + length (bareBytes v)) → Good text k a v → Outcome text k ts x
 
 module _ (text : List ℕ) (k : ℕ) where
   of-item : (ts : List Json) (x : Item) (why : Refusal) → In 23 26 (refusalNumber why) → Taken text (suc k) ts x → Outcome text (suc k) ts (ofItem why x)
@@ -92,7 +92,7 @@ module _ (text : List ℕ) (k : ℕ) where
   no-array i a e h = rw (not-framed 0x5B 0x5D a e h)
 
   scalar-step : (s : Selector) (a e : ℕ) (bs : List ℕ) → getD text a 0 ≢ 0x7B → getD text a 0 ≢ 0x5B
-      → Outcome text (suc k) (raw-children s (scalar a bs)) (stepBy (byteIn text) (ruled text) (suc k) s a e)
+      → Outcome text (suc k) (rawChildren s (scalar a bs)) (stepBy (byteIn text) (ruled text) (suc k) s a e)
   scalar-step (name n) a e bs h l = miss NotObject (omega arith) refl (no-object n a e h)
   scalar-step (number i) a e bs h l = miss NotArray (omega arith) refl (no-array i a e l)
 
@@ -110,28 +110,28 @@ module _ (text : List ℕ) (k : ℕ) where
     below = omega (arith, h .size);
   }
 
-  pad-dark : (a : ℕ) (p : Pad) (ys : List ℕ) → Seg text a (pad-bytes p ++ ys) → Dark a (a + length (pad-bytes p ++ ys))
+  pad-dark : (a : ℕ) (p : Pad) (ys : List ℕ) → Seg text a (padBytes p ++ ys) → Dark a (a + length (padBytes p ++ ys))
   pad-dark a (Pad.pad {w} {w′} b v b′) ys g =
-      let h = seg-left text a (w ++ (bare-bytes v ++ w′)) ys g in
-      dark a _ (length (bare-bytes v)) b (seg-left text a w (bare-bytes v ++ w′) h)
-      (value-ends text (a + length w) v (seg-left text (a + length w) (bare-bytes v) w′ (seg-right text a w (bare-bytes v ++ w′) h)))
-      (omega (arith, length-append (w ++ (bare-bytes v ++ w′)) ys, length-append w (bare-bytes v ++ w′), length-append (bare-bytes v) w′))
+      let h = seg-left text a (w ++ (bareBytes v ++ w′)) ys g in
+      dark a _ (length (bareBytes v)) b (seg-left text a w (bareBytes v ++ w′) h)
+      (value-ends text (a + length w) v (seg-left text (a + length w) (bareBytes v) w′ (seg-right text a w (bareBytes v ++ w′) h)))
+      (omega (arith, length-append (w ++ (bareBytes v ++ w′)) ys, length-append w (bareBytes v ++ w′), length-append (bareBytes v) w′))
 
-  entry-dark : (a : ℕ) (m : Entry) (ys : List ℕ) → Seg text a (entry-bytes m ++ ys) → Dark a (a + length (entry-bytes m ++ ys))
+  entry-dark : (a : ℕ) (m : Entry) (ys : List ℕ) → Seg text a (entryBytes m ++ ys) → Dark a (a + length (entryBytes m ++ ys))
   entry-dark a (Entry.entry {w} {raw} {us} {w′} b s b′ p) ys g =
-      let xs : List ℕ = w ++ (string-bytes raw ++ w′) in
-      let h = seg-left text a xs (0x3A ∷ pad-bytes p) (seg-left text a (xs ++ (0x3A ∷ pad-bytes p)) ys g) in
-      dark a _ (length (string-bytes raw)) b (seg-left text a w (string-bytes raw ++ w′) h)
-      (bracket-ends text (a + length w) 0x22 0x22 raw (omega arith) (omega arith) (seg-left text (a + length w) (string-bytes raw) w′ (seg-right text a w (string-bytes raw ++ w′) h)))
-      (omega (arith, length-append (xs ++ (0x3A ∷ pad-bytes p)) ys, length-append xs (0x3A ∷ pad-bytes p), length-append w (string-bytes raw ++ w′), length-append (string-bytes raw) w′))
+      let xs : List ℕ = w ++ (stringBytes raw ++ w′) in
+      let h = seg-left text a xs (0x3A ∷ padBytes p) (seg-left text a (xs ++ (0x3A ∷ padBytes p)) ys g) in
+      dark a _ (length (stringBytes raw)) b (seg-left text a w (stringBytes raw ++ w′) h)
+      (bracket-ends text (a + length w) 0x22 0x22 raw (omega arith) (omega arith) (seg-left text (a + length w) (stringBytes raw) w′ (seg-right text a w (stringBytes raw ++ w′) h)))
+      (omega (arith, length-append (xs ++ (0x3A ∷ padBytes p)) ys, length-append xs (0x3A ∷ padBytes p), length-append w (stringBytes raw ++ w′), length-append (stringBytes raw) w′))
 
-  elems-dark : (a : ℕ) (es : Elems) → Seg text a (elems-bytes es) → Dark a (a + length (elems-bytes es))
+  elems-dark : (a : ℕ) (es : Elems) → Seg text a (elemsBytes es) → Dark a (a + length (elemsBytes es))
   elems-dark a (Elems.last p) g = rw append-nil at (pad-dark a p [] (rw append-nil g))
-  elems-dark a (Elems.more p es) g = pad-dark a p (0x2C ∷ elems-bytes es) g
+  elems-dark a (Elems.more p es) g = pad-dark a p (0x2C ∷ elemsBytes es) g
 
-  entries-dark : (a : ℕ) (ms : Entries) → Seg text a (entries-bytes ms) → Dark a (a + length (entries-bytes ms))
+  entries-dark : (a : ℕ) (ms : Entries) → Seg text a (entriesBytes ms) → Dark a (a + length (entriesBytes ms))
   entries-dark a (Entries.last-entry m) g = rw append-nil at (entry-dark a m [] (rw append-nil g))
-  entries-dark a (Entries.more-entries m ms) g = entry-dark a m (0x2C ∷ entries-bytes ms) g
+  entries-dark a (Entries.more-entries m ms) g = entry-dark a m (0x2C ∷ entriesBytes ms) g
 
   -- ---- arrays and objects
 
@@ -142,7 +142,7 @@ module _ (text : List ℕ) (k : ℕ) where
 
   array-step : (i a : ℕ) (xs : List ℕ) → Seg text a (0x5B ∷ (xs ++ (0x5D ∷ []))) → filled (byteIn text) a (a + length (0x5B ∷ (xs ++ (0x5D ∷ [])))) ≡ true
       → numberStep (byteIn text) (ruled text) (suc k) i a (a + length (0x5B ∷ (xs ++ (0x5D ∷ []))))
-      ≡ ofItem NoNumber (itemNo (byteIn text) (commas-of text k) i (suc a) (suc a + length xs))
+      ≡ ofItem NoNumber (itemNo (byteIn text) (commasOf text k) i (suc a) (suc a + length xs))
   unfolding numberStep bitOf
   array-step i a xs g f = rw (is-framed 0x5B 0x5D a xs g, f, inner-end 0x5B 0x5D a xs g, add-one a)
 
@@ -153,7 +153,7 @@ module _ (text : List ℕ) (k : ℕ) where
 
   object-step : (n : List ℕ) (a : ℕ) (xs : List ℕ) → Seg text a (0x7B ∷ (xs ++ (0x7D ∷ []))) → filled (byteIn text) a (a + length (0x7B ∷ (xs ++ (0x7D ∷ [])))) ≡ true
       → nameStep (byteIn text) (ruled text) (suc k) n a (a + length (0x7B ∷ (xs ++ (0x7D ∷ []))))
-      ≡ ofItem NoName (items (itemAt (byteIn text) (ruled text) (suc k) n) (commas-of text k) (suc a) (suc a + length xs))
+      ≡ ofItem NoName (items (itemAt (byteIn text) (ruled text) (suc k) n) (commasOf text k) (suc a) (suc a + length xs))
   unfolding nameStep bitOf
   object-step n a xs g f = rw (is-framed 0x7B 0x7D a xs g, f, inner-end 0x7B 0x7D a xs g, add-one a)
 
@@ -163,39 +163,39 @@ module _ (text : List ℕ) (k : ℕ) where
   object-none n a xs g b = rw (is-framed 0x7B 0x7D a xs g, is-empty 0x7B 0x7D a xs g b)
 
   array-value : (s : Selector) (a : ℕ) (es : Elems) → Good text k a (Bare.array es)
-      → Outcome text (suc k) (raw-children s (bare-tree a (Bare.array es))) (stepBy (byteIn text) (ruled text) (suc k) s a (a + length (bare-bytes (Bare.array es))))
+      → Outcome text (suc k) (rawChildren s (bareTree a (Bare.array es))) (stepBy (byteIn text) (ruled text) (suc k) s a (a + length (bareBytes (Bare.array es))))
   array-value (name n) a es g = miss NotObject (omega arith) refl (no-object n a _ (λ e. omega (arith, e, g .seg .0)))
   array-value (number i) a es g =
-      let sg : Seg text (suc a) (elems-bytes es) = seg-left text (suc a) (elems-bytes es) (0x5D ∷ []) (g .seg .1) in
+      let sg : Seg text (suc a) (elemsBytes es) = seg-left text (suc a) (elemsBytes es) (0x5D ∷ []) (g .seg .1) in
       let at : At text (suc a) (out (suc k)) = opened a 0x5B (g .at) (omega (arith, g .shallow)) (g .seg .0) refl in
       let dk = elems-dark (suc a) es sg in
-      rw (array-step i a (elems-bytes es) (g .seg) (is-filled 0x5B 0x5D a (elems-bytes es) (g .seg) (dk .place) (dk .is-start) (dk .below)))
+      rw (array-step i a (elemsBytes es) (g .seg) (is-filled 0x5B 0x5D a (elemsBytes es) (g .seg) (dk .place) (dk .is-start) (dk .below)))
       (of-item _ _ NoNumber (omega arith) (number-taken text k i (suc a) es _ refl sg at (omega (arith, g .shallow))))
 
   object-value : (s : Selector) (a : ℕ) (ms : Entries) → Good text k a (Bare.object ms)
-      → Outcome text (suc k) (raw-children s (bare-tree a (Bare.object ms))) (stepBy (byteIn text) (ruled text) (suc k) s a (a + length (bare-bytes (Bare.object ms))))
+      → Outcome text (suc k) (rawChildren s (bareTree a (Bare.object ms))) (stepBy (byteIn text) (ruled text) (suc k) s a (a + length (bareBytes (Bare.object ms))))
   unfolding items
   object-value (name n) a ms g =
-      let sg : Seg text (suc a) (entries-bytes ms) = seg-left text (suc a) (entries-bytes ms) (0x7D ∷ []) (g .seg .1) in
+      let sg : Seg text (suc a) (entriesBytes ms) = seg-left text (suc a) (entriesBytes ms) (0x7D ∷ []) (g .seg .1) in
       let at : At text (suc a) (out (suc k)) = opened a 0x7B (g .at) (omega (arith, g .shallow)) (g .seg .0) refl in
       let dk = entries-dark (suc a) ms sg in
-      rw (object-step n a (entries-bytes ms) (g .seg) (is-filled 0x7B 0x7D a (entries-bytes ms) (g .seg) (dk .place) (dk .is-start) (dk .below)))
+      rw (object-step n a (entriesBytes ms) (g .seg) (is-filled 0x7B 0x7D a (entriesBytes ms) (g .seg) (dk .place) (dk .is-start) (dk .below)))
       (of-item _ _ NoName (omega arith)
-      (names-taken text k n (suc a) ms (suc (suc a + length (entries-bytes ms) - suc a)) (suc a + length (entries-bytes ms)) refl (omega arith) sg at (omega (arith, g .shallow))))
+      (names-taken text k n (suc a) ms (suc (suc a + length (entriesBytes ms) - suc a)) (suc a + length (entriesBytes ms)) refl (omega arith) sg at (omega (arith, g .shallow))))
   object-value (number i) a ms g = miss NotArray (omega arith) refl (no-array i a _ (λ e. omega (arith, e, g .seg .0)))
 
   empty-array-value : {w : List ℕ} (s : Selector) (a : ℕ) (e : Ws w) → Good text k a (Bare.empty-array e)
-      → Outcome text (suc k) (raw-children s (bare-tree a (Bare.empty-array e))) (stepBy (byteIn text) (ruled text) (suc k) s a (a + length (bare-bytes (Bare.empty-array e))))
+      → Outcome text (suc k) (rawChildren s (bareTree a (Bare.empty-array e))) (stepBy (byteIn text) (ruled text) (suc k) s a (a + length (bareBytes (Bare.empty-array e))))
   empty-array-value (name n) a e g = miss NotObject (omega arith) refl (no-object n a _ (λ z. omega (arith, z, g .seg .0)))
   empty-array-value {w} (number i) a e g = miss NoNumber (omega arith) refl (array-none i a w (g .seg) e)
 
   empty-object-value : {w : List ℕ} (s : Selector) (a : ℕ) (e : Ws w) → Good text k a (Bare.empty-object e)
-      → Outcome text (suc k) (raw-children s (bare-tree a (Bare.empty-object e))) (stepBy (byteIn text) (ruled text) (suc k) s a (a + length (bare-bytes (Bare.empty-object e))))
+      → Outcome text (suc k) (rawChildren s (bareTree a (Bare.empty-object e))) (stepBy (byteIn text) (ruled text) (suc k) s a (a + length (bareBytes (Bare.empty-object e))))
   empty-object-value {w} (name n) a e g = miss NoName (omega arith) refl (object-none n a w (g .seg) e)
   empty-object-value (number i) a e g = miss NotArray (omega arith) refl (no-array i a _ (λ z. omega (arith, z, g .seg .0)))
 
   number-value : (s : Selector) (a : ℕ) (bs : List ℕ) → Number bs → Seg text a bs
-      → Outcome text (suc k) (raw-children s (scalar a bs)) (stepBy (byteIn text) (ruled text) (suc k) s a (a + length bs))
+      → Outcome text (suc k) (rawChildren s (scalar a bs)) (stepBy (byteIn text) (ruled text) (suc k) s a (a + length bs))
   number-value s a bs n g =
       let f = number-first n in
       let so : Solids (f .0 ∷ f .1) = rw (f .2) at (number-solids n) in
@@ -204,7 +204,7 @@ module _ (text : List ℕ) (k : ℕ) where
 
   -- the step, at any value
   pub step-right : (s : Selector) (a : ℕ) (v : Bare) → Good text k a v
-      → Outcome text (suc k) (raw-children s (bare-tree a v)) (stepBy (byteIn text) (ruled text) (suc k) s a (a + length (bare-bytes v)))
+      → Outcome text (suc k) (rawChildren s (bareTree a v)) (stepBy (byteIn text) (ruled text) (suc k) s a (a + length (bareBytes v)))
   step-right s a Bare.false g = scalar-step s a _ _ (λ e. omega (arith, e, g .seg .0)) (λ e. omega (arith, e, g .seg .0))
   step-right s a Bare.null g = scalar-step s a _ _ (λ e. omega (arith, e, g .seg .0)) (λ e. omega (arith, e, g .seg .0))
   step-right s a Bare.true g = scalar-step s a _ _ (λ e. omega (arith, e, g .seg .0)) (λ e. omega (arith, e, g .seg .0))

@@ -100,26 +100,26 @@ module _ (text : List ℕ) (i x : ℕ) (e n : Bool) (at : getD text i 0 ≡ x) w
 
 -- ---- what a state says of a place
 
-abbrev esc-of : State → Bool
-esc-of (out k) = false
-esc-of (str k) = false
-esc-of (esc k) = true
+abbrev escOf : State → Bool
+escOf (out k) = false
+escOf (str k) = false
+escOf (esc k) = true
 
-abbrev ins-of : State → Bool
-ins-of (out k) = false
-ins-of (str k) = true
-ins-of (esc k) = true
+abbrev insOf : State → Bool
+insOf (out k) = false
+insOf (str k) = true
+insOf (esc k) = true
 
-abbrev depth-of : State → ℕ
-depth-of (out k) = k
-depth-of (str k) = k
-depth-of (esc k) = k
+abbrev depthOf : State → ℕ
+depthOf (out k) = k
+depthOf (str k) = k
+depthOf (esc k) = k
 
 -- the rules say at i what the state says
 pub record At (text : List ℕ) (i : ℕ) (s : State) : Type 0 where
-  pub escaping : escaped text i ≡ esc-of s
-  pub within : inString text i ≡ ins-of s
-  pub depth : count (opener text) i ≡ count (closer text) i + depth-of s
+  pub escaping : escaped text i ≡ escOf s
+  pub within : inString text i ≡ insOf s
+  pub depth : count (opener text) i ≡ count (closer text) i + depthOf s
 
 pub at-start : (text : List ℕ) → At text 0 (out 0)
 unfolding escaped runBefore inString count odd
@@ -141,8 +141,8 @@ pub record Stepped (text : List ℕ) (i : ℕ) (q : Bool) (d : ℕ) (t : State) 
 module _ (text : List ℕ) (i : ℕ) (q : Bool) (d : ℕ) where
   -- at a byte x: what is left to show of its classes
   stepped : (x : ℕ) (e n : Bool) (t : State) → getD text i 0 ≡ x → escaped text i ≡ e → inString text i ≡ n
-      → (is backslash x && not e) ≡ esc-of t → xor (is quote x && not e) n ≡ ins-of t
-      → count (opener text) i + digit (is opens x && not n) ≡ count (closer text) i + digit (is closes x && not n) + depth-of t
+      → (is backslash x && not e) ≡ escOf t → xor (is quote x && not e) n ≡ insOf t
+      → count (opener text) i + digit (is opens x && not n) ≡ count (closer text) i + digit (is closes x && not n) + depthOf t
       → ((c : Class) → Separator c → (k : ℕ) → k ≤ d → (is c x && not n && atDepth text k i) ≡ false)
       → (q ≡ false → (is quote x && not e) ≡ false)
       → (is closes x && not n && atDepth text 0 i) ≡ false → (is opens x && not n && atDepth text 64 i) ≡ false → Stepped text i q d t
@@ -164,8 +164,8 @@ module _ (text : List ℕ) (i : ℕ) (q : Bool) (d : ℕ) where
       level c s (suc j) m = level-here text i x e n at c j k ∙ l c s (suc j) m
 
   -- inside a string nothing counts but the quote
-  inner : (k : ℕ) (e : Bool) (t : State) → escaped text i ≡ e → inString text i ≡ true → count (opener text) i ≡ count (closer text) i + k → depth-of t ≡ k
-      → (is backslash (getD text i 0) && not e) ≡ esc-of t → xor (is quote (getD text i 0) && not e) true ≡ ins-of t
+  inner : (k : ℕ) (e : Bool) (t : State) → escaped text i ≡ e → inString text i ≡ true → count (opener text) i ≡ count (closer text) i + k → depthOf t ≡ k
+      → (is backslash (getD text i 0) && not e) ≡ escOf t → xor (is quote (getD text i 0) && not e) true ≡ insOf t
       → (q ≡ false → (is quote (getD text i 0) && not e) ≡ false) → Stepped text i q d t
   inner k e t h m c l f g w =
       let x : ℕ = getD text i 0 in
@@ -206,8 +206,8 @@ module _ (text : List ℕ) (i : ℕ) (q : Bool) (d k : ℕ) (h : At text i (out 
   separated x l c s j m = rw (deeper l j m) (and-false (is c x && true))
 
   -- outside, at a byte x
-  outer : (x : ℕ) (t : State) → getD text i 0 ≡ x → (is backslash x && true) ≡ esc-of t → xor (is quote x && true) false ≡ ins-of t
-      → k + digit (is opens x && true) ≡ digit (is closes x && true) + depth-of t
+  outer : (x : ℕ) (t : State) → getD text i 0 ≡ x → (is backslash x && true) ≡ escOf t → xor (is quote x && true) false ≡ insOf t
+      → k + digit (is opens x && true) ≡ digit (is closes x && true) + depthOf t
       → ((c : Class) → Separator c → (j : ℕ) → j ≤ d → (is c x && true && atDepth text j i) ≡ false)
       → (q ≡ false → (is quote x && true) ≡ false)
       → (is closes x && true && atDepth text 0 i) ≡ false → (is opens x && true && atDepth text 64 i) ≡ false → Stepped text i q d t

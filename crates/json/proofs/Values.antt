@@ -13,7 +13,7 @@ use Rattle.query.specs.declared.items.Item.{Item}
 use Rattle.query.specs.declared.items.Item.the-variants.{Found, Other}
 use Rattle.json.specs.Grammar.{Number}
 use Rattle.json.specs.Select.{Json, deep}
-use Rattle.json.proofs.Padded.{Bare, Pad, bare-bytes, pad-bytes, elems-bytes, entries-bytes, bare-tree, padded}
+use Rattle.json.proofs.Padded.{Bare, Pad, bareBytes, padBytes, elemsBytes, entriesBytes, bareTree, padded}
 use Rattle.json.proofs.Machine.{out}
 use Rattle.json.proofs.Derive.{Solids, number-solids, number-first, plains-run, ws-plains}
 use Rattle.json.proofs.Trace.{At, Seg, trace}
@@ -52,30 +52,30 @@ module _ (text : List ℕ) where
       let f = number-first n in
       rw (f .2) (solid-ends a (f .0) (f .1) (rw (f .2) at (number-solids n)) (rw (f .2) at g))
 
-  pub value-ends : (a : ℕ) (v : Bare) → Seg text a (bare-bytes v) → Ends text a (length (bare-bytes v))
+  pub value-ends : (a : ℕ) (v : Bare) → Seg text a (bareBytes v) → Ends text a (length (bareBytes v))
   value-ends a Bare.false g = solid-ends a 0x66 (0x61 ∷ 0x6C ∷ 0x73 ∷ 0x65 ∷ []) (omega arith) g
   value-ends a Bare.null g = solid-ends a 0x6E (0x75 ∷ 0x6C ∷ 0x6C ∷ []) (omega arith) g
   value-ends a Bare.true g = solid-ends a 0x74 (0x72 ∷ 0x75 ∷ 0x65 ∷ []) (omega arith) g
   value-ends a (Bare.num {bs} n) g = number-ends a bs n g
   value-ends a (Bare.string {raw} s) g = bracket-ends a 0x22 0x22 raw (omega arith) (omega arith) g
   value-ends a (Bare.empty-array {w} b) g = bracket-ends a 0x5B 0x5D w (omega arith) (omega arith) g
-  value-ends a (Bare.array es) g = bracket-ends a 0x5B 0x5D (elems-bytes es) (omega arith) (omega arith) g
+  value-ends a (Bare.array es) g = bracket-ends a 0x5B 0x5D (elemsBytes es) (omega arith) (omega arith) g
   value-ends a (Bare.empty-object {w} b) g = bracket-ends a 0x7B 0x7D w (omega arith) (omega arith) g
-  value-ends a (Bare.object ms) g = bracket-ends a 0x7B 0x7D (entries-bytes ms) (omega arith) (omega arith) g
+  value-ends a (Bare.object ms) g = bracket-ends a 0x7B 0x7D (entriesBytes ms) (omega arith) (omega arith) g
 
 -- ---- a value in its place: below k brackets, at place a
 
 pub record Good (text : List ℕ) (k a : ℕ) (v : Bare) : Type 0 where
-  pub seg : Seg text a (bare-bytes v)
+  pub seg : Seg text a (bareBytes v)
   pub at : At text a (out k)
-  pub shallow : deep (bare-tree a v) + k ≤ 64
+  pub shallow : deep (bareTree a v) + k ≤ 64
 
 -- a part of the record is a value's
 pub record Hit (text : List ℕ) (k : ℕ) (t : Json) (x : Item) : Type 0 where
   pub place : ℕ
   pub value : Bare
-  pub is-tree : t ≡ bare-tree place value
-  pub is-part : x ≡ Found place (place + length (bare-bytes value))
+  pub is-tree : t ≡ bareTree place value
+  pub is-part : x ≡ Found place (place + length (bareBytes value))
   pub good : Good text k place value
 
 -- what is taken from a node, and the item that the walk makes of it
@@ -84,15 +84,15 @@ pub data Taken (text : List ℕ) (k : ℕ) (ts : List Json) (x : Item) : Type 0 
   one : (t : Json) → ts ≡ t ∷ [] → Hit text k t x → Taken text k ts x
 
 module _ (text : List ℕ) (k : ℕ) where
-  pub pad-hit : (a : ℕ) (p : Pad) → Seg text a (pad-bytes p) → At text a (out k) → deep (padded a p) + k ≤ 64
-      → Hit text k (padded a p) (valueAt (byteIn text) a (a + length (pad-bytes p)))
+  pub pad-hit : (a : ℕ) (p : Pad) → Seg text a (padBytes p) → At text a (out k) → deep (padded a p) + k ≤ 64
+      → Hit text k (padded a p) (valueAt (byteIn text) a (a + length (padBytes p)))
   pad-hit a (Pad.pad {w} {w′} b v b′) g h d =
-      let s : Seg text (a + length w) (bare-bytes v) = seg-left text (a + length w) (bare-bytes v) w′ (seg-right text a w (bare-bytes v ++ w′) g) in
-      let t = trace text a true 0 (out k) (out k) w (seg-left text a w (bare-bytes v ++ w′) g) h (plains-run true 0 k w (ws-plains b)) in
+      let s : Seg text (a + length w) (bareBytes v) = seg-left text (a + length w) (bareBytes v) w′ (seg-right text a w (bareBytes v ++ w′) g) in
+      let t = trace text a true 0 (out k) (out k) w (seg-left text a w (bareBytes v ++ w′) g) h (plains-run true 0 k w (ws-plains b)) in
       record {
         place = a + length w;
         value = v;
         is-tree = refl;
-        is-part = value-mid text a (bare-bytes v) b b′ g (value-ends text (a + length w) v s);
+        is-part = value-mid text a (bareBytes v) b b′ g (value-ends text (a + length w) v s);
         good = record { seg = s; at = t .after; shallow = d };
       }

@@ -12,8 +12,8 @@ use Rattle.rules.specs.Word.{count}
 use Rattle.rules.specs.Bits.{opener, closer, atDepth}
 use Rattle.rules.specs.Faults.{sound, closesNone, opensOver, atEnd, faultFrom, faultOf}
 use Rattle.json.specs.Grammar.{Text}
-use Rattle.json.specs.Select.{deep, value-of}
-use Rattle.json.proofs.Padded.{Pad, pad-bytes, padded, padded-text, text-same-bytes, text-same-tree}
+use Rattle.json.specs.Select.{deep, valueOf}
+use Rattle.json.proofs.Padded.{Pad, padBytes, padded, paddedText, text-same-bytes, text-same-tree}
 use Rattle.json.proofs.Machine.{out, go}
 use Rattle.json.proofs.Derive.{pad-run}
 use Rattle.json.proofs.Trace.{At, at-start, Never, trace}
@@ -30,11 +30,11 @@ ends-well : (text : List ℕ) (i : ℕ) → At text i (out 0) → atEnd text i �
 unfolding atEnd atDepth
 ends-well text i h = rw (h .within, eq-eqb (count (opener text) i) (count (closer text) i + 0) (h .depth)) refl
 
-pub text-sound : (text : List ℕ) (t : Text text) → deep (value-of (t .derivation)) ≤ 64 → faultOf text ≡ sound
+pub text-sound : (text : List ℕ) (t : Text text) → deep (valueOf (t .derivation)) ≤ 64 → faultOf text ≡ sound
 unfolding faultOf
 text-sound text t d =
-    let p : Pad = padded-text (t .derivation) in
-    let whole : pad-bytes p ≡ text = text-same-bytes (t .derivation) ∙ t .derives in
+    let p : Pad = paddedText (t .derivation) in
+    let whole : padBytes p ≡ text = text-same-bytes (t .derivation) ∙ t .derives in
     let low : deep (padded 0 p) + 0 ≤ 64 = rw (add-zero, text-same-tree (t .derivation)) d in
     let run : go true 0 (out 0) text ≡ some (out 0) = rw whole at (pad-run 0 0 0 p low (omega arith)) in
     let x = trace text 0 true 0 (out 0) (out 0) text (seg-self text) (at-start text) run in

@@ -160,8 +160,8 @@ pub data Chars : List ℕ → List ℕ → Type 0 where
   char : {b bs us : List ℕ} {u : ℕ} → Char b u → Chars bs us → Chars (b ++ bs) (u ∷ us)
 
 -- string = quotation-mark *char quotation-mark, quotation-mark = %x22
-abbrev pub string-bytes : List ℕ → List ℕ
-string-bytes raw = 0x22 ∷ (raw ++ (0x22 ∷ []))
+abbrev pub stringBytes : List ℕ → List ℕ
+stringBytes raw = 0x22 ∷ (raw ++ (0x22 ∷ []))
 
 -- ---- sections 3, 4 and 5: values, objects, arrays. A derivation is a tree
 
@@ -215,38 +215,38 @@ abbrev pub structural : {c : ℕ} → Structural c → List ℕ
 structural {c} s = ahead s ++ (c ∷ behind s)
 
 abbrev mutual
-  pub value-bytes : Value → List ℕ
-  value-bytes Value.false = 0x66 ∷ 0x61 ∷ 0x6C ∷ 0x73 ∷ 0x65 ∷ []
-  value-bytes Value.null = 0x6E ∷ 0x75 ∷ 0x6C ∷ 0x6C ∷ []
-  value-bytes Value.true = 0x74 ∷ 0x72 ∷ 0x75 ∷ 0x65 ∷ []
-  value-bytes (Value.object o) = object-bytes o
-  value-bytes (Value.array a) = array-bytes a
-  value-bytes (Value.number {bs} n) = bs
-  value-bytes (Value.string {raw} s) = string-bytes raw
+  pub valueBytes : Value → List ℕ
+  valueBytes Value.false = 0x66 ∷ 0x61 ∷ 0x6C ∷ 0x73 ∷ 0x65 ∷ []
+  valueBytes Value.null = 0x6E ∷ 0x75 ∷ 0x6C ∷ 0x6C ∷ []
+  valueBytes Value.true = 0x74 ∷ 0x72 ∷ 0x75 ∷ 0x65 ∷ []
+  valueBytes (Value.object o) = objectBytes o
+  valueBytes (Value.array a) = arrayBytes a
+  valueBytes (Value.number {bs} n) = bs
+  valueBytes (Value.string {raw} s) = stringBytes raw
 
-  pub object-bytes : Object → List ℕ
-  object-bytes (Object.no-members b e) = structural b ++ structural e
-  object-bytes (Object.members b ms e) = structural b ++ (members-bytes ms ++ structural e)
+  pub objectBytes : Object → List ℕ
+  objectBytes (Object.no-members b e) = structural b ++ structural e
+  objectBytes (Object.members b ms e) = structural b ++ (membersBytes ms ++ structural e)
 
-  pub members-bytes : Members → List ℕ
-  members-bytes (Members.one-member m) = member-bytes m
-  members-bytes (Members.more-members m s ms) = member-bytes m ++ (structural s ++ members-bytes ms)
+  pub membersBytes : Members → List ℕ
+  membersBytes (Members.one-member m) = memberBytes m
+  membersBytes (Members.more-members m s ms) = memberBytes m ++ (structural s ++ membersBytes ms)
 
-  pub member-bytes : Member → List ℕ
-  member-bytes (Member.member {raw} c s v) = string-bytes raw ++ (structural s ++ value-bytes v)
+  pub memberBytes : Member → List ℕ
+  memberBytes (Member.member {raw} c s v) = stringBytes raw ++ (structural s ++ valueBytes v)
 
-  pub array-bytes : Array → List ℕ
-  array-bytes (Array.no-values b e) = structural b ++ structural e
-  array-bytes (Array.values b vs e) = structural b ++ (values-bytes vs ++ structural e)
+  pub arrayBytes : Array → List ℕ
+  arrayBytes (Array.no-values b e) = structural b ++ structural e
+  arrayBytes (Array.values b vs e) = structural b ++ (valuesBytes vs ++ structural e)
 
-  pub values-bytes : Values → List ℕ
-  values-bytes (Values.one-value v) = value-bytes v
-  values-bytes (Values.more-values v s vs) = value-bytes v ++ (structural s ++ values-bytes vs)
+  pub valuesBytes : Values → List ℕ
+  valuesBytes (Values.one-value v) = valueBytes v
+  valuesBytes (Values.more-values v s vs) = valueBytes v ++ (structural s ++ valuesBytes vs)
 
-abbrev pub text-bytes : JSON-text → List ℕ
-text-bytes (JSON-text.text {w} {w′} b v b′) = w ++ (value-bytes v ++ w′)
+abbrev pub textBytes : JSON-text → List ℕ
+textBytes (JSON-text.text {w} {w′} b v b′) = w ++ (valueBytes v ++ w′)
 
 -- a list of bytes that obeys RFC 8259
 pub record Text (bs : List ℕ) : Type 0 where
   pub derivation : JSON-text
-  pub derives : text-bytes derivation ≡ bs
+  pub derives : textBytes derivation ≡ bs
