@@ -98,8 +98,10 @@ module _ (byte : ℕ → ℕ) (n l : ℕ) (b c : Bits) (g : Agree n l b c) where
   item-agree : (k : ℕ) (m : List ℕ) → 1 ≤ k → k ≤ l → (a e : ℕ) → a ≤ e → e ≤ n → itemAt byte b k m a e ≡ itemAt byte c k m a e
   unfolding itemAt
   item-agree k m o p a e h j =
-      rw (first-agree (b .colon k) (c .colon k) n (λ i z. g .colons k i o p z) a e h j,
-        keyed-agree (b .quote) (c .quote) n (g .quotes) byte m a (firstAt (c .colon k) a e) e (first-ge (c .colon k) a e h) (omega (arith, first-le (c .colon k) a e h)))
+      rw (
+        first-agree (b .colon k) (c .colon k) n (λ i z. g .colons k i o p z) a e h j,
+        keyed-agree (b .quote) (c .quote) n (g .quotes) byte m a (firstAt (c .colon k) a e) e (first-ge (c .colon k) a e h) (omega (arith, first-le (c .colon k) a e h)),
+      )
 
   step-agree : (k : ℕ) (s : Selector) (a e : ℕ) → 1 ≤ k → k ≤ l → e ≤ n → stepBy byte b k s a e ≡ stepBy byte c k s a e
   unfolding nameStep numberStep items

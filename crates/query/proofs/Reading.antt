@@ -64,8 +64,11 @@ unfolding byteIn
 stay-name path a h =
     first-ind (λ i r. (i ≤ r) × ((n : List ℕ) → from path (naming n) i ≡ from path (naming (n ++ between (byteIn path) i r)) r)) (λ i. not (isTail (getD path i 0))) (length path)
     (omega arith, λ n. none n (length path)) (λ i l y. (omega arith, λ n. none n i))
-    (λ i r l y p. (omega (arith, p .0), λ n. from-go path (naming n) (naming (n ++ (getD path i 0 ∷ []))) i l (rw (not-false (isTail (getD path i 0)) y)) ∙ p .1 (n ++ (getD path i 0 ∷ []))
-    ∙ ap (λ (m : List ℕ). from path (naming m) r) (append-assoc n (getD path i 0 ∷ []) (between (byteIn path) (suc i) r) ∙ ap (λ (m : List ℕ). n ++ m) (sym (between-some (byteIn path) i r (p .0)))))) a h
+    (λ i r l y p. (
+      omega (arith, p .0),
+      λ n. from-go path (naming n) (naming (n ++ (getD path i 0 ∷ []))) i l (rw (not-false (isTail (getD path i 0)) y)) ∙ p .1 (n ++ (getD path i 0 ∷ []))
+          ∙ ap (λ (m : List ℕ). from path (naming m) r) (append-assoc n (getD path i 0 ∷ []) (between (byteIn path) (suc i) r) ∙ ap (λ (m : List ℕ). n ++ m) (sym (between-some (byteIn path) i r (p .0)))),
+    )) a h
   where
     none : (n : List ℕ) (i : ℕ) → from path (naming n) i ≡ from path (naming (n ++ between (byteIn path) i i)) i
     none n i = ap (λ (m : List ℕ). from path (naming m) i) (sym (ap (λ (m : List ℕ). n ++ m) (between-none (byteIn path) i i (omega arith)) ∙ append-nil n))
