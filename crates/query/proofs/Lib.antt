@@ -13,3 +13,4 @@ pub mod Answering
 pub mod Machine
 pub mod Grammars
 pub mod Reading
+pub mod Agree

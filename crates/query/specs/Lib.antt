@@ -5,3 +5,4 @@ pub mod Grammar
 pub mod Path
 pub mod Walk
 pub mod Answers
+pub mod Reports
