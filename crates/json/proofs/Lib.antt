@@ -18,5 +18,4 @@ pub mod Values
 pub mod Elements
 pub mod Members
 pub mod Steps
-pub mod Agree
 pub mod Paths

@@ -33,7 +33,7 @@ use Rattle.json.proofs.Trace.{at-start, Seg}
 use Rattle.json.proofs.Stretches.{seg-at, seg-self}
 use Rattle.json.proofs.Values.{value-ends, Good, Hit, pad-hit}
 use Rattle.json.proofs.Steps.{Outcome, step-right}
-use Rattle.json.proofs.Agree.{walk-promised}
+use Rattle.query.proofs.Agree.{walk-promised}
 use Rattle.json.proofs.Names.{Ascii, PlainName, rawChildren, children-same, AllFair, children-fair}
 use Rattle.json.proofs.Verdicts.{text-sound}
 
