@@ -150,6 +150,7 @@ bracket : (d k c : ℕ) (xs : List ℕ) → d ≤ k → k < 64 → sortOf c ≡ 
 bracket d k c xs h l f g = rw (lt-ltb k 64 l, go-append true d (out (suc k)) xs (c ∷ []) g, f, lt-ltb d (suc k) (omega arith)) refl
 
 deep-rest : (a : ℕ) (m : Entry) (fs : Fields) → deepFields fs ≤ deepFields (withEntry a m fs)
+unfolding deep
 deep-rest a (Entry.entry b s b′ p) fs = omega arith
 
 -- a comma or colon where it may stand
@@ -163,6 +164,7 @@ name-run {w} {raw} {us} {w′} d k b s b′ =
     (join true d (out k) (stringBytes raw) w′ (string-run d k s) (plains-run true d k w′ (ws-plains b′)))
 
 mutual
+  unfolding deep
   pub value-run : (a d k : ℕ) (v : Bare) → deep (bareTree a v) + k ≤ 64 → d ≤ k → go true d (out k) (bareBytes v) ≡ some (out k)
   value-run a d k Bare.false h l = refl
   value-run a d k Bare.null h l = refl

@@ -88,6 +88,7 @@ module _ (text : List ℕ) (k : ℕ) where
 
   pub number-taken : (i a : ℕ) (es : Elems) (e : ℕ) → e ≡ a + length (elemsBytes es) → Seg text a (elemsBytes es) → At text a (out (suc k))
       → deepItems (padItems a es) + suc k ≤ 64 → Taken text (suc k) (nth i (padItems a es)) (itemNo (byteIn text) commasOf i a e)
+  unfolding nth deep
   number-taken zero a (Elems.last p) e q g h d =
       one _ refl (rw (no-first a e (a + length (padBytes p)) (pad-last a p e q g h (omega arith))) (pad-hit text (suc k) a p g h (omega arith)))
   number-taken (suc i) a (Elems.last p) e q g h d =

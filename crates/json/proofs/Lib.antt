@@ -11,7 +11,6 @@ pub mod Derive
 pub mod Trace
 pub mod Stretches
 pub mod Verdicts
-pub mod Sample
 pub mod Names
 pub mod Parts
 pub mod Values
@@ -19,3 +18,4 @@ pub mod Elements
 pub mod Members
 pub mod Steps
 pub mod Paths
+pub mod Sample

@@ -144,6 +144,7 @@ module _ (text : List ℕ) (k : ℕ) where
 
     pub names-taken : (a : ℕ) (ms : Entries) (c e : ℕ) → e ≡ a + length (entriesBytes ms) → length (entriesBytes ms) < c → Seg text a (entriesBytes ms) → At text a (out (suc k))
         → deepFields (padFields a ms) + suc k ≤ 64 → Taken text (suc k) (rawNamed n (padFields a ms)) (itemsIn entryOf (commasOf text k) c a e)
+    unfolding deep
     names-taken a (Entries.last-entry m) zero e q f g h d = absurd (not-suc-le-zero f)
     names-taken a (Entries.more-entries m ms) zero e q f g h d = absurd (not-suc-le-zero f)
     names-taken a (Entries.last-entry (Entry.entry {w} {raw} {us} {w′} b s b′ p)) (suc c) e q f g h d =

@@ -102,6 +102,7 @@ not-high {b} {u} x = go (isHigh u) refl
     go false e = e
 
 unpaired : {raw us : List ℕ} → Chars raw us → Unescaped raw → characters us ≡ us
+unfolding characters
 unpaired Chars.none h = refl
 unpaired (Chars.char c Chars.none) h = refl
 unpaired (Chars.char {b} {bs} {us} {u} c (Chars.char {b = b′} {bs = bs′} {us = vs} {u = v} d cs)) h =
@@ -130,6 +131,7 @@ rawChildren (number i) (object a bs fs) = []
 
 -- a name that no later field has
 fresh-none : (us n : List ℕ) (fs : Fields) → us ≡ n → Fresh us fs → named n fs ≡ []
+unfolding named
 fresh-none us n noFields e h = refl
 fresh-none us n (field raw vs t fs) e h = rw (same-false vs n (λ z. h .0 (e ∙ sym z))) (fresh-none us n fs e (h .1))
 
@@ -140,6 +142,7 @@ kept false true t ts us e f g = absurd (false≢true e)
 kept false false t ts us e f g = f
 
 fields-same : (n : List ℕ) (a : ℕ) (ms : Entries) → Ascii n → FairFields (padFields a ms) → rawNamed n (padFields a ms) ≡ named n (padFields a ms)
+unfolding named
 fields-same n a (Entries.last-entry (Entry.entry {raw} {us} b s b′ p)) ac f =
     kept (same raw n) (same (characters us) n) _ [] [] (sym (name-same n s (f .0) ac)) refl (λ e. refl)
 fields-same n a (Entries.more-entries (Entry.entry {w} {raw} {us} {w′} b s b′ p) ms) ac f =
@@ -154,6 +157,7 @@ PlainName (name n) = Ascii n
 PlainName (number i) = Unit {0}
 
 pub children-same : (s : Selector) (a : ℕ) (v : Bare) → PlainName s → Fair (bareTree a v) → rawChildren s (bareTree a v) ≡ children s (bareTree a v)
+unfolding children named
 children-same (name n) a Bare.false h f = refl
 children-same (name n) a Bare.null h f = refl
 children-same (name n) a Bare.true h f = refl
@@ -177,11 +181,13 @@ AllFair [] = Unit {0}
 AllFair (t ∷ ts) = Fair t × AllFair ts
 
 nth-fair : (i : ℕ) (is : Items) → FairItems is → AllFair (nth i is)
+unfolding nth
 nth-fair i noItems f = tt
 nth-fair zero (item t is) f = (f .0, tt)
 nth-fair (suc i) (item t is) f = nth-fair i is (f .1)
 
 named-fair : (n : List ℕ) (fs : Fields) → FairFields fs → AllFair (named n fs)
+unfolding named
 named-fair n noFields f = tt
 named-fair n (field raw us t fs) f = keep (same us n) (named n fs) (f .2) (named-fair n fs (f .3))
   where
@@ -190,6 +196,7 @@ named-fair n (field raw us t fs) f = keep (same us n) (named n fs) (f .2) (named
     keep false ts h k = k
 
 pub children-fair : (s : Selector) (t : Json) → Fair t → AllFair (children s t)
+unfolding children named nth
 children-fair (name n) (scalar a bs) f = tt
 children-fair (name n) (array a bs is) f = tt
 children-fair (name n) (object a bs fs) f = named-fair n fs f

@@ -37,9 +37,9 @@ mutual
 
 abbrev mutual
   pub bareBytes : Bare → List ℕ
-  bareBytes Bare.false = valueBytes Value.false
-  bareBytes Bare.null = valueBytes Value.null
-  bareBytes Bare.true = valueBytes Value.true
+  bareBytes Bare.false = 0x66 ∷ 0x61 ∷ 0x6C ∷ 0x73 ∷ 0x65 ∷ []
+  bareBytes Bare.null = 0x6E ∷ 0x75 ∷ 0x6C ∷ 0x6C ∷ []
+  bareBytes Bare.true = 0x74 ∷ 0x72 ∷ 0x75 ∷ 0x65 ∷ []
   bareBytes (Bare.num {bs} n) = bs
   bareBytes (Bare.string {raw} s) = stringBytes raw
   bareBytes (Bare.empty-array {w} b) = 0x5B ∷ (w ++ (0x5D ∷ []))
@@ -64,9 +64,9 @@ abbrev mutual
 -- the nodes, the bytes beginning at place a
 abbrev mutual
   pub bareTree : ℕ → Bare → Json
-  bareTree a Bare.false = Json.scalar a (valueBytes Value.false)
-  bareTree a Bare.null = Json.scalar a (valueBytes Value.null)
-  bareTree a Bare.true = Json.scalar a (valueBytes Value.true)
+  bareTree a Bare.false = Json.scalar a (bareBytes Bare.false)
+  bareTree a Bare.null = Json.scalar a (bareBytes Bare.null)
+  bareTree a Bare.true = Json.scalar a (bareBytes Bare.true)
   bareTree a (Bare.num {bs} n) = Json.scalar a bs
   bareTree a (Bare.string {raw} s) = Json.scalar a (stringBytes raw)
   bareTree a (Bare.empty-array {w} b) = Json.array a (0x5B ∷ (w ++ (0x5D ∷ []))) noItems
@@ -141,6 +141,7 @@ extend-bytes : {w w′ : List ℕ} (p : Pad) (b : Ws w) (b′ : Ws w′) → pad
 extend-bytes (Pad.pad c v c′) b b′ = simp append-assoc
 
 mutual
+  unfolding valueBytes
   same-bytes : (v : Value) → padBytes (normal v) ≡ valueBytes v
   same-bytes Value.false = refl
   same-bytes Value.null = refl
@@ -180,6 +181,7 @@ module _ {c : ℕ} (s : Structural c) where
   structural-length = omega (arith, length-append (ahead s) (c ∷ behind s))
 
 mutual
+  unfolding valueBytes tree
   same-tree : (a : ℕ) (v : Value) → padded a (normal v) ≡ tree a v
   same-tree a Value.false = ap (λ (i : ℕ). Json.scalar i (valueBytes Value.false)) (add-zero a)
   same-tree a Value.null = ap (λ (i : ℕ). Json.scalar i (valueBytes Value.null)) (add-zero a)
@@ -232,9 +234,9 @@ pub paddedText : JSON-text → Pad
 paddedText (JSON-text.text b v b′) = extend (normal v) b b′
 
 pub text-same-bytes : (t : JSON-text) → padBytes (paddedText t) ≡ textBytes t
-unfolding paddedText
+unfolding paddedText textBytes valueBytes
 text-same-bytes (JSON-text.text b v b′) = rw (extend-bytes (normal v) b b′, same-bytes v) refl
 
 pub text-same-tree : (t : JSON-text) → padded 0 (paddedText t) ≡ valueOf t
-unfolding paddedText
+unfolding paddedText valueOf tree
 text-same-tree (JSON-text.text {w} b v b′) = extend-tree 0 (normal v) b b′ ∙ same-tree _ v ∙ ap (λ (i : ℕ). tree i v) (omega arith)

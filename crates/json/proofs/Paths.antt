@@ -91,6 +91,7 @@ along kids [] ts = ts
 along kids (s ∷ ss) ts = along kids ss (flat (kids s) ts)
 
 along-none : (kids : Selector → Json → List Json) (ss : List Selector) → along kids ss [] ≡ []
+unfolding flat
 along-none kids [] = refl
 along-none kids (s ∷ ss) = along-none kids ss
 
@@ -99,7 +100,7 @@ module _ (text : List ℕ) (kids : Selector → Json → List Json) (P : Json �
     (keeps : (s : Selector) (t : Json) → P t → All P (kids s t)) where
   walked : (ss : List Selector) (k a : ℕ) (v : Bare) → Each Q ss → P (bareTree a v) → Good text k a v → a + length (bareBytes v) ≤ length text
       → Selects text (along kids ss (bareTree a v ∷ [])) (walkFrom (byteIn text) (ruled text) (suc k) ss a (a + length (bareBytes v)))
-  unfolding walkFrom
+  unfolding walkFrom flat
   walked [] k a v q p g l = one-part text (bareTree a v) a (bareBytes v) (first-tree a v) (bytes-tree a v) (seg-part text a (bareBytes v) (g .seg) l)
   walked (s ∷ ss) k a v q p g l =
       go (rw (agree s a v (q .0) p) at (step-right text k s a v g)) (keeps s (bareTree a v) p) (step-in (byteIn text) (ruled text) (length text) (suc k) s a _ l)
@@ -161,6 +162,7 @@ path-plain (Path.root s) = steps-plain s
 
 -- with unescaped and unrepeated names: what RFC 9535 selects
 along-segments : (ss : List Selector) (ts : List Json) → along children ss ts ≡ segments ss ts
+unfolding segments
 along-segments [] ts = refl
 along-segments (s ∷ ss) ts = along-segments ss (flat (children s) ts)
 
@@ -169,6 +171,7 @@ all-fair [] h = tt
 all-fair (t ∷ ts) h = (h .0, all-fair ts (h .1))
 
 walk-selects : (text : List ℕ) (t : Obeys text) (path : List ℕ) (ss : List Selector) → Path path ss → Selects text (select ss (root t)) (walk text (ruled text) ss)
+unfolding select
 walk-selects text t path ss p =
     rw (along-segments ss (root t ∷ [])) at
     (from-whole text children Fair PlainName children-same (λ s x h. all-fair (children s x) (children-fair s x h)) (root t) ss (path-plain p) (t .fair)

@@ -8,7 +8,7 @@ use native.Mathlib.Omega.{arith}
 use borrow.Author.Tests.{eqb-true}
 use lib.Dec.{eqb}
 use lib.ListN.{length}
-use Rattle.json.specs.Grammar.{Ws, Structural, Value, Object, Members, Member, Array, Values, JSON-text, Text, valueBytes, membersBytes, valuesBytes}
+use Rattle.json.specs.Grammar.{Ws, Structural, Value, Object, Members, Member, Array, Values, JSON-text, Text, valueBytes, membersBytes, valuesBytes, textBytes}
 use Rattle.json.proofs.Recogniser.{Rest, then, byte, skip, number, string, Kind, a-value, elements, members, closed, next, rule, read, ended, accepts}
 use Rattle.json.proofs.SoundTokens.{ahead, before, nothing, by-test, by-then, exactly, literal-sound, skip-sound, number-sound, chars-sound}
 
@@ -48,6 +48,7 @@ by-next c f (b ∷ bs) {r} e g h =
 
 module _ (f : Kind → List ℕ → Rest) (ih : (k : Kind) (bs r : List ℕ) → f k bs ≡ some r → Derives k bs r) where
   array-sound : (bs : List ℕ) {r : List ℕ} → closed 0x5D (f elements) (skip bs) ≡ some r → Valued (0x5B ∷ bs) r
+  unfolding valueBytes
   array-sound bs {r} e =
       let s = skip-sound bs in
       by-closed 0x5D (f elements) (skip bs) e
@@ -63,6 +64,7 @@ module _ (f : Kind → List ℕ → Rest) (ih : (k : Kind) (bs r : List ℕ) →
       })
 
   object-sound : (bs : List ℕ) {r : List ℕ} → closed 0x7D (f members) (skip bs) ≡ some r → Valued (0x7B ∷ bs) r
+  unfolding valueBytes
   object-sound bs {r} e =
       let s = skip-sound bs in
       by-closed 0x7D (f members) (skip bs) e
@@ -78,7 +80,7 @@ module _ (f : Kind → List ℕ → Rest) (ih : (k : Kind) (bs r : List ℕ) →
       })
 
   value-sound : (bs r : List ℕ) → rule f a-value bs ≡ some r → Valued bs r
-  unfolding rule string
+  unfolding rule string valueBytes
   value-sound [] r e = nothing e
   value-sound (b ∷ bs) r e =
       by-test (eqb b 0x5B) _ _ e (λ h k. rw (eqb-true b 0x5B h) (array-sound bs k))
@@ -93,7 +95,7 @@ module _ (f : Kind → List ℕ → Rest) (ih : (k : Kind) (bs r : List ℕ) →
       λ _ k. let n = number-sound (b ∷ bs) k in record { value = Value.number (n .is); whole = n .whole }
 
   elements-sound : (bs r : List ℕ) → rule f elements bs ≡ some r → Elements bs r
-  unfolding rule
+  unfolding rule valueBytes
   elements-sound bs r e = by-then (f a-value bs) _ e λ m h e.
       let v = ih a-value bs m h in
       let s = skip-sound m in
@@ -110,7 +112,7 @@ module _ (f : Kind → List ℕ → Rest) (ih : (k : Kind) (bs r : List ℕ) →
       }
 
   members-sound : (bs r : List ℕ) → rule f members bs ≡ some r → Entries bs r
-  unfolding rule string
+  unfolding rule string valueBytes
   members-sound bs r e =
       by-then (byte 0x22 0x22 bs) _ e λ m₁ h₁ e. by-then (string m₁) _ e λ m₂ h₂ e. by-then (byte 0x3A 0x3A (skip m₂)) _ e λ m₃ h₃ e.
       by-then (f a-value (skip m₃)) _ e λ m₄ h₄ e.
@@ -147,7 +149,7 @@ read-sound (suc n) k bs r e = rule-sound (read n) (read-sound n) k bs r e
 
 -- whatever is accepted is a text
 pub accepted-text : (bs : List ℕ) → accepts bs ≡ true → Text bs
-unfolding accepts
+unfolding accepts textBytes
 accepted-text bs e = go (read (suc (length bs + length bs)) a-value (skip bs)) refl e
   where
     last : (r : List ℕ) → ended (some r) ≡ true → r ≡ []

@@ -23,7 +23,7 @@ use Rattle.query.specs.declared.types.Refusal.{Refusal}
 use Rattle.query.specs.declared.types.Refusal.the-variants.{NotObject, NotArray, NoName, NoNumber}
 use Rattle.query.proofs.PlaceLaws.{first-at}
 use Rattle.json.specs.Grammar.{Ws, Number, stringBytes}
-use Rattle.json.specs.Select.{Json, scalar}
+use Rattle.json.specs.Select.{Json, scalar, nth, deep}
 use Rattle.json.proofs.Padded.{Bare, Pad, Elems, Entry, Entries, bareBytes, padBytes, elemsBytes, entryBytes, entriesBytes, bareTree}
 use Rattle.json.proofs.Machine.{up, sortOf, out}
 use Rattle.json.proofs.Derive.{Solids, number-solids, number-first}
@@ -164,6 +164,7 @@ module _ (text : List ℕ) (k : ℕ) where
 
   array-value : (s : Selector) (a : ℕ) (es : Elems) → Good text k a (Bare.array es)
       → Outcome text (suc k) (rawChildren s (bareTree a (Bare.array es))) (stepBy (byteIn text) (ruled text) (suc k) s a (a + length (bareBytes (Bare.array es))))
+  unfolding deep
   array-value (name n) a es g = miss NotObject (omega arith) refl (no-object n a _ (λ e. omega (arith, e, g .seg .0)))
   array-value (number i) a es g =
       let sg : Seg text (suc a) (elemsBytes es) = seg-left text (suc a) (elemsBytes es) (0x5D ∷ []) (g .seg .1) in
@@ -174,7 +175,7 @@ module _ (text : List ℕ) (k : ℕ) where
 
   object-value : (s : Selector) (a : ℕ) (ms : Entries) → Good text k a (Bare.object ms)
       → Outcome text (suc k) (rawChildren s (bareTree a (Bare.object ms))) (stepBy (byteIn text) (ruled text) (suc k) s a (a + length (bareBytes (Bare.object ms))))
-  unfolding items
+  unfolding items deep
   object-value (name n) a ms g =
       let sg : Seg text (suc a) (entriesBytes ms) = seg-left text (suc a) (entriesBytes ms) (0x7D ∷ []) (g .seg .1) in
       let at : At text (suc a) (out (suc k)) = opened a 0x7B (g .at) (omega (arith, g .shallow)) (g .seg .0) refl in
@@ -186,6 +187,7 @@ module _ (text : List ℕ) (k : ℕ) where
 
   empty-array-value : {w : List ℕ} (s : Selector) (a : ℕ) (e : Ws w) → Good text k a (Bare.empty-array e)
       → Outcome text (suc k) (rawChildren s (bareTree a (Bare.empty-array e))) (stepBy (byteIn text) (ruled text) (suc k) s a (a + length (bareBytes (Bare.empty-array e))))
+  unfolding nth
   empty-array-value (name n) a e g = miss NotObject (omega arith) refl (no-object n a _ (λ z. omega (arith, z, g .seg .0)))
   empty-array-value {w} (number i) a e g = miss NoNumber (omega arith) refl (array-none i a w (g .seg) e)
 

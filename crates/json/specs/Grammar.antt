@@ -214,7 +214,7 @@ behind (Structural.around {w} {w′} b b′) = w′
 abbrev pub structural : {c : ℕ} → Structural c → List ℕ
 structural {c} s = ahead s ++ (c ∷ behind s)
 
-abbrev mutual
+unfoldable mutual
   pub valueBytes : Value → List ℕ
   valueBytes Value.false = 0x66 ∷ 0x61 ∷ 0x6C ∷ 0x73 ∷ 0x65 ∷ []
   valueBytes Value.null = 0x6E ∷ 0x75 ∷ 0x6C ∷ 0x6C ∷ []
@@ -243,7 +243,7 @@ abbrev mutual
   valuesBytes (Values.one-value v) = valueBytes v
   valuesBytes (Values.more-values v s vs) = valueBytes v ++ (structural s ++ valuesBytes vs)
 
-abbrev pub textBytes : JSON-text → List ℕ
+unfoldable pub textBytes : JSON-text → List ℕ
 textBytes (JSON-text.text {w} {w′} b v b′) = w ++ (valueBytes v ++ w′)
 
 -- a list of bytes that obeys RFC 8259

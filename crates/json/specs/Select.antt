@@ -23,7 +23,7 @@ pair true u v us vs = (0x10000 + (u - 0xD800) * 0x400 + (v - 0xDC00)) ∷ us
 pair false u v us vs = u ∷ vs
 
 -- "an extended character that is not in the Basic Multilingual Plane" is written as "the UTF-16 surrogate pair": two \uXXXX make one character
-abbrev pub characters : List ℕ → List ℕ
+unfoldable pub characters : List ℕ → List ℕ
 characters [] = []
 characters (u ∷ []) = u ∷ []
 characters (u ∷ v ∷ us) = pair (isHigh u && isLow v) u v (characters us) (characters (v ∷ us))
@@ -46,7 +46,7 @@ mutual
     field : List ℕ → List ℕ → Json → Fields → Fields
 
 -- the value that a derivation describes, whose bytes begin at place a
-abbrev mutual
+unfoldable mutual
   pub tree : ℕ → Value → Json
   tree a Value.false = scalar a (valueBytes Value.false)
   tree a Value.null = scalar a (valueBytes Value.null)
@@ -78,7 +78,7 @@ abbrev mutual
   items a (Values.more-values v s vs) = item (tree a v) (items (a + length (valueBytes v) + length (structural s)) vs)
 
 -- the whole text's value
-abbrev pub valueOf : JSON-text → Json
+unfoldable pub valueOf : JSON-text → Json
 valueOf (JSON-text.text {w} b v b′) = tree (length w) v
 
 abbrev pub firstOf : Json → ℕ
@@ -98,18 +98,18 @@ keepIf true t ts = t ∷ ts
 keepIf false t ts = ts
 
 -- 2.3.1, the name selector: the member values whose name is that; equal are "identical sequences of Unicode scalar values"
-abbrev pub named : List ℕ → Fields → List Json
+unfoldable pub named : List ℕ → Fields → List Json
 named n noFields = []
 named n (field raw us t fs) = keepIf (same us n) t (named n fs)
 
 -- 2.3.3, the index selector: the element of that "zero-based index", or nothing outside "the range of the array"
-abbrev pub nth : ℕ → Items → List Json
+unfoldable pub nth : ℕ → Items → List Json
 nth i noItems = []
 nth zero (item t is) = t ∷ []
 nth (suc i) (item t is) = nth i is
 
 -- "Nothing is selected from a value that is not an object"; "that is not an array"
-abbrev pub children : Selector → Json → List Json
+unfoldable pub children : Selector → Json → List Json
 children (name m) (scalar a bs) = []
 children (name m) (array a bs is) = []
 children (name m) (object a bs fs) = named m fs
@@ -119,22 +119,22 @@ children (number i) (object a bs fs) = []
 
 -- ---- 2.1.2: a query is the root identifier and then segments, each applied to a nodelist: to every node in turn, what comes of it concatenated
 
-abbrev pub flat : (Json → List Json) → List Json → List Json
+unfoldable pub flat : (Json → List Json) → List Json → List Json
 flat f [] = []
 flat f (t ∷ ts) = f t ++ flat f ts
 
-abbrev pub segments : List Selector → List Json → List Json
+unfoldable pub segments : List Selector → List Json → List Json
 segments [] ts = ts
 segments (s ∷ ss) ts = segments ss (flat (children s) ts)
 
 -- the nodelist of a query over a value: the root identifier gives the nodelist of that value alone
-abbrev pub select : List Selector → Json → List Json
+unfoldable pub select : List Selector → Json → List Json
 select ss root = segments ss (root ∷ [])
 
 -- ---- the conditions of demand 2
 
 -- how deep brackets stand in a value
-abbrev mutual
+unfoldable mutual
   pub deep : Json → ℕ
   deep (scalar a bs) = 0
   deep (array a bs is) = suc (deepItems is)
