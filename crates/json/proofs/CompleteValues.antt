@@ -1,37 +1,21 @@
 -- What the grammar derives, the recogniser reads: values, by the derivation with its blanks regrouped; two rules for each byte are enough.
 use mathlib.Core.Path.{_≡_, refl, sym, ap, _∙_}
 use mathlib.Core.Bool.{true, false}
-use mathlib.Core.Option.{none, some}
+use mathlib.Core.Option.{some}
 use mathlib.Core.List.{List, [], _∷_, _++_, append-assoc, append-nil}
 use Prim.Native.Nat.{ℕ, zero, suc, _+_, _≤_}
 use native.Mathlib.Nat.{not-suc-le-zero}
 use native.Mathlib.Omega.{arith}
 use borrow.Author.Tests.{ne-eqb, eq-eqb}
 use lib.ListN.{length, length-append}
-use Rattle.json.specs.Grammar.{Opt, Ws, Minus, Int, Number, Chars, stringBytes, Text}
-use Rattle.json.proofs.Padded.{Bare, Pad, Elems, Entry, Entries, bareBytes, padBytes, elemsBytes, entryBytes, entriesBytes, paddedText, text-same-bytes}
-use Rattle.json.proofs.Recogniser.{Rest, within, byte, literal, skip, digits, minus, number, string, Kind, a-value, elements, members, closed, next, rule, read, accepts}
-use Rattle.json.proofs.CompleteTokens.{byte-here, Dark, skip-ws, Delimiter, Ends, low-delimiter, closer-delimiter, ws-ends, number-here, string-here}
+use Rattle.json.specs.Grammar.{Ws, Number, Chars, stringBytes, Text}
+use Rattle.json.proofs.Padded.{Bare, Pad, Elems, Entry, Entries, bareBytes, padBytes, elemsBytes, entryBytes, entriesBytes, paddedText, text-same-bytes, number-starts}
+use Rattle.json.proofs.Recogniser.{Rest, within, byte, literal, skip, number, string, Kind, a-value, elements, members, closed, next, rule, read, accepts}
+use Rattle.json.proofs.CompleteNumbers.{byte-here, Dark, skip-ws, Delimiter, Follows, low-delimiter, closer-delimiter, ws-ends, number-here}
+use Rattle.json.proofs.CompleteStrings.{string-here}
 
 comma-delimiter : Delimiter 0x2C
 comma-delimiter = low-delimiter 0x2C (omega arith)
-
--- the first byte, in a range
-record Starts (lo hi : ℕ) (bs : List ℕ) : Type 0 where
-  first : ℕ
-  rest : List ℕ
-  whole : bs ≡ first ∷ rest
-  low : lo ≤ first
-  high : first ≤ hi
-
-int-starts : {i : List ℕ} (xs : List ℕ) → Int i → Starts 0x2D 0x39 (i ++ xs)
-int-starts xs Int.zero = record { first = 0x30; rest = xs; whole = refl; low = omega arith; high = omega arith }
-int-starts xs (Int.digits {b} {bs} h d) = record { first = b; rest = bs ++ xs; whole = refl; low = omega arith; high = omega arith }
-
-number-starts : {bs : List ℕ} → Number bs → Starts 0x2D 0x39 bs
-number-starts (Number.number {f} {e} Opt.none i c d) = int-starts (f ++ e) i
-number-starts (Number.number {i} {f} {e} (Opt.some Minus.minus) j c d) =
-    record { first = 0x2D; rest = i ++ (f ++ e); whole = refl; low = omega arith; high = omega arith }
 
 -- a number is read as one
 as-number : (f : Kind → List ℕ → Rest) (b : ℕ) (xs : List ℕ) → 0x2D ≤ b → b ≤ 0x39 → rule f a-value (b ∷ xs) ≡ number (b ∷ xs)
@@ -46,13 +30,13 @@ as-number f b xs l k =
       ne-eqb b 0x74 (omega arith),
     ) refl
 
-number-rule : (f : Kind → List ℕ → Rest) {bs : List ℕ} (r : List ℕ) → Number bs → Ends r → rule f a-value (bs ++ r) ≡ some r
+number-rule : (f : Kind → List ℕ → Rest) {bs : List ℕ} (r : List ℕ) → Number bs → Follows r → rule f a-value (bs ++ r) ≡ some r
 number-rule f {bs} r n h =
     let s = number-starts n in
     let w : bs ++ r ≡ s .first ∷ (s .rest ++ r) = ap (λ (l : List ℕ). l ++ r) (s .whole) in
     ap (rule f a-value) w ∙ as-number f (s .first) (s .rest ++ r) (s .low) (s .high) ∙ ap number (sym w) ∙ number-here r n h
 
--- a value's first byte is no blank and none of `"` `,` `]` `}`
+-- a value's first byte is no blank and no `]`
 record Opens (bs : List ℕ) : Type 0 where
   first : ℕ
   rest : List ℕ
@@ -140,11 +124,6 @@ next-more : (c : ℕ) (f : List ℕ → Rest) (xs r : List ℕ) → (0x2C ≡ c 
 unfolding next
 next-more c f xs r h e = rw (ne-eqb 0x2C c h) e
 
--- a number that is not 0
-suc-of : (n : ℕ) → 1 ≤ n → (k : ℕ) × (n ≡ suc k)
-suc-of zero h = absurd (not-suc-le-zero h)
-suc-of (suc k) h = (k, refl)
-
 -- the first rule of so many
 read-suc : (n : ℕ) (k : Kind) (bs r : List ℕ) → 1 ≤ n → ((m : ℕ) → n ≡ suc m → rule (read m) k bs ≡ some r) → read n k bs ≡ some r
 unfolding read
@@ -173,7 +152,7 @@ unfolding rule
 string-rule f {raw} r s = rw (append-assoc raw (0x22 ∷ []) r) (string-here r s)
 
 mutual
-  value-reads : (v : Bare) (n : ℕ) (r : List ℕ) → length (bareBytes v) + length (bareBytes v) ≤ n → Ends r → read n a-value (bareBytes v ++ r) ≡ some r
+  value-reads : (v : Bare) (n : ℕ) (r : List ℕ) → length (bareBytes v) + length (bareBytes v) ≤ n → Follows r → read n a-value (bareBytes v ++ r) ≡ some r
   value-reads Bare.false n r h e = read-suc n a-value _ r (omega arith) (λ m q. literal-rule (read m) r .0)
   value-reads Bare.null n r h e = read-suc n a-value _ r (omega arith) (λ m q. literal-rule (read m) r .1)
   value-reads Bare.true n r h e = read-suc n a-value _ r (omega arith) (λ m q. literal-rule (read m) r .2)
@@ -198,7 +177,7 @@ mutual
       (object-rule (read m) _ r
       (entries-open (read m members) es (0x7D ∷ r) ∙ entries-read es m r (omega (arith, q, length-append (entriesBytes es) (0x7D ∷ [])))))
 
-  pad-passed : (p : Pad) (n : ℕ) (xs : List ℕ) → length (padBytes p) + length (padBytes p) ≤ n → Dark xs → Ends xs → Passed p n xs
+  pad-passed : (p : Pad) (n : ℕ) (xs : List ℕ) → length (padBytes p) + length (padBytes p) ≤ n → Dark xs → Follows xs → Passed p n xs
   pad-passed (Pad.pad {w} {w′} b v b′) n xs h d e = record {
     rest = w′ ++ xs;
     reads = rw (skip-pad v b b′ xs) (value-reads v n (w′ ++ xs) (omega (arith, length-append w (bareBytes v ++ w′), length-append (bareBytes v) w′)) (ws-ends xs b′ e));
@@ -219,7 +198,7 @@ mutual
       (elements-step p m (0x2C ∷ xs) r (pad-passed p m (0x2C ∷ xs) (omega arith) (omega arith) comma-delimiter)
       (next-more 0x5D (read m elements) xs r (omega arith) (elems-read es m r (omega arith))))
 
-  entry-passed : (x : Entry) (n : ℕ) (xs r : List ℕ) → length (entryBytes x) + length (entryBytes x) ≤ n → Dark xs → Ends xs
+  entry-passed : (x : Entry) (n : ℕ) (xs r : List ℕ) → length (entryBytes x) + length (entryBytes x) ≤ n → Dark xs → Follows xs
       → next 0x7D (read n members) xs ≡ some r → rule (read n) members (skip (entryBytes x ++ xs)) ≡ some r
   entry-passed (Entry.entry {w} {raw} {us} {w′} b s b′ p) n xs r h d e k =
       members-step b s b′ p n xs r (pad-passed p n xs (omega (arith, length-append (w ++ (stringBytes raw ++ w′)) (0x3A ∷ padBytes p))) d e) k

@@ -87,15 +87,6 @@ pub number-solids : {bs : List ℕ} → Number bs → Solids bs
 number-solids (Number.number {m} {i} {f} {e} x y z w) =
     solids-append m _ (minus-solids x) (solids-append i _ (int-solids y) (solids-append f e (frac-solids z) (exp-solids w)))
 
-int-first : {i : List ℕ} (xs : List ℕ) → Int i → (b : ℕ) × (bs : List ℕ) × (i ++ xs ≡ b ∷ bs)
-int-first xs Int.zero = (0x30, xs, refl)
-int-first xs (Int.digits {b} {bs} h ds) = (b, bs ++ xs, refl)
-
--- a number has a first byte
-pub number-first : {bs : List ℕ} → Number bs → (x : ℕ) × (xs : List ℕ) × (bs ≡ x ∷ xs)
-number-first (Number.number {i} {f} {e} Opt.none y z w) = int-first (f ++ e) y
-number-first (Number.number {i} {f} {e} (Opt.some Minus.minus) y z w) = (0x2D, i ++ (f ++ e), refl)
-
 -- ---- strings
 
 -- neither a quote nor a backslash
@@ -165,6 +156,7 @@ name-run {w} {raw} {us} {w′} d k b s b′ =
 
 mutual
   unfolding deep
+
   pub value-run : (a d k : ℕ) (v : Bare) → deep (bareTree a v) + k ≤ 64 → d ≤ k → go true d (out k) (bareBytes v) ≡ some (out k)
   value-run a d k Bare.false h l = refl
   value-run a d k Bare.null h l = refl

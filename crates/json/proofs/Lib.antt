@@ -1,9 +1,12 @@
 -- Theorems about the texts of RFC 8259.
 pub mod Padded
+pub mod Tests
 pub mod Recogniser
-pub mod SoundTokens
+pub mod SoundNumbers
+pub mod SoundStrings
 pub mod SoundValues
-pub mod CompleteTokens
+pub mod CompleteNumbers
+pub mod CompleteStrings
 pub mod CompleteValues
 pub mod Trials
 pub mod Machine

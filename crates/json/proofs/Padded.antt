@@ -2,11 +2,11 @@
 -- Every derivation of RFC 8259 has such a form, with the same bytes and the same nodes; by regrouping the blanks.
 use mathlib.Core.Path.{_≡_, refl, ap, ap₂, _∙_}
 use mathlib.Core.List.{List, [], _∷_, _++_, append-assoc, append-nil}
-use Prim.Native.Nat.{ℕ, suc, _+_}
+use Prim.Native.Nat.{ℕ, suc, _+_, _≤_}
 use native.Mathlib.Nat.{add-zero}
 use native.Mathlib.Omega.{arith}
 use lib.ListN.{length, length-append}
-use Rattle.json.specs.Grammar.{Ws, Structural, Number, Chars, stringBytes, Value, Object, Members, Member, Array, Values, JSON-text, ahead, behind, structural, valueBytes, objectBytes, membersBytes, memberBytes, arrayBytes, valuesBytes, textBytes}
+use Rattle.json.specs.Grammar.{Opt, Int, Minus, Ws, Structural, Number, Chars, stringBytes, Value, Object, Members, Member, Array, Values, JSON-text, ahead, behind, structural, valueBytes, objectBytes, membersBytes, memberBytes, arrayBytes, valuesBytes, textBytes}
 use Rattle.json.specs.Select.{characters, Json, Items, noItems, item, Fields, noFields, field, tree, objectTree, fields, withMember, arrayTree, items, valueOf}
 
 mutual
@@ -142,6 +142,7 @@ extend-bytes (Pad.pad c v c′) b b′ = simp append-assoc
 
 mutual
   unfolding valueBytes
+
   same-bytes : (v : Value) → padBytes (normal v) ≡ valueBytes v
   same-bytes Value.false = refl
   same-bytes Value.null = refl
@@ -182,6 +183,7 @@ module _ {c : ℕ} (s : Structural c) where
 
 mutual
   unfolding valueBytes tree
+
   same-tree : (a : ℕ) (v : Value) → padded a (normal v) ≡ tree a v
   same-tree a Value.false = ap (λ (i : ℕ). Json.scalar i (valueBytes Value.false)) (add-zero a)
   same-tree a Value.null = ap (λ (i : ℕ). Json.scalar i (valueBytes Value.null)) (add-zero a)
@@ -240,3 +242,21 @@ text-same-bytes (JSON-text.text b v b′) = rw (extend-bytes (normal v) b b′, 
 pub text-same-tree : (t : JSON-text) → padded 0 (paddedText t) ≡ valueOf t
 unfolding paddedText valueOf tree
 text-same-tree (JSON-text.text {w} b v b′) = extend-tree 0 (normal v) b b′ ∙ same-tree _ v ∙ ap (λ (i : ℕ). tree i v) (omega arith)
+
+-- ---- a number begins with a minus or a digit
+
+pub record Starts (bs : List ℕ) : Type 0 where
+  pub first : ℕ
+  pub rest : List ℕ
+  pub whole : bs ≡ first ∷ rest
+  pub low : 0x2D ≤ first
+  pub high : first ≤ 0x39
+
+int-starts : {i : List ℕ} (xs : List ℕ) → Int i → Starts (i ++ xs)
+int-starts xs Int.zero = record { first = 0x30; rest = xs; whole = refl; low = omega arith; high = omega arith }
+int-starts xs (Int.digits {b} {bs} h d) = record { first = b; rest = bs ++ xs; whole = refl; low = omega arith; high = omega arith }
+
+pub number-starts : {bs : List ℕ} → Number bs → Starts bs
+number-starts (Number.number {f} {e} Opt.none i c d) = int-starts (f ++ e) i
+number-starts (Number.number {i} {f} {e} (Opt.some Minus.minus) j c d) =
+    record { first = 0x2D; rest = i ++ (f ++ e); whole = refl; low = omega arith; high = omega arith }

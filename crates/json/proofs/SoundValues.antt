@@ -1,28 +1,28 @@
 -- What the recogniser reads, the grammar derives: values, by the number of rules.
 use mathlib.Core.Path.{_≡_, refl, sym, ap, ap₂, _∙_}
-use mathlib.Core.Bool.{true, false}
+use mathlib.Core.Bool.{true, false, false≢true}
 use mathlib.Core.Option.{none, some}
 use mathlib.Core.List.{List, [], _∷_, _++_, append-assoc, append-nil}
 use Prim.Native.Nat.{ℕ, zero, suc, _+_}
-use native.Mathlib.Omega.{arith}
 use borrow.Author.Tests.{eqb-true}
 use lib.Dec.{eqb}
 use lib.ListN.{length}
 use Rattle.json.specs.Grammar.{Ws, Structural, Value, Object, Members, Member, Array, Values, JSON-text, Text, valueBytes, membersBytes, valuesBytes, textBytes}
 use Rattle.json.proofs.Recogniser.{Rest, then, byte, skip, number, string, Kind, a-value, elements, members, closed, next, rule, read, ended, accepts}
-use Rattle.json.proofs.SoundTokens.{ahead, before, nothing, by-test, by-then, exactly, literal-sound, skip-sound, number-sound, chars-sound}
+use Rattle.json.proofs.SoundNumbers.{ahead, before, nothing, by-test, by-then, exactly, literal-sound, skip-sound, number-sound}
+use Rattle.json.proofs.SoundStrings.{chars-sound}
 
 record Valued (bs r : List ℕ) : Type 0 where
   value : Value
   whole : bs ≡ valueBytes value ++ r
 
-record Elements (bs r : List ℕ) : Type 0 where
+record Listed (bs r : List ℕ) : Type 0 where
   values : Values
   blanks : List ℕ
   are : Ws blanks
   whole : bs ≡ valuesBytes values ++ (blanks ++ (0x5D ∷ r))
 
-record Entries (bs r : List ℕ) : Type 0 where
+record Paired (bs r : List ℕ) : Type 0 where
   members : Members
   blanks : List ℕ
   are : Ws blanks
@@ -30,8 +30,8 @@ record Entries (bs r : List ℕ) : Type 0 where
 
 abbrev Derives : Kind → List ℕ → List ℕ → Type 0
 Derives a-value = Valued
-Derives elements = Elements
-Derives members = Entries
+Derives elements = Listed
+Derives members = Paired
 
 by-closed : {C : Type 0} (c : ℕ) (f : List ℕ → Rest) (bs : List ℕ) {r : List ℕ} → closed c f bs ≡ some r → (bs ≡ c ∷ r → C) → (f bs ≡ some r → C) → C
 unfolding closed
@@ -94,7 +94,7 @@ module _ (f : Kind → List ℕ → Rest) (ih : (k : Kind) (bs r : List ℕ) →
       λ _ e. by-test (eqb b 0x74) _ _ e (λ h k. record { value = Value.true; whole = ap₂ {C = List ℕ} _∷_ (eqb-true b 0x74 h) (literal-sound (0x72 ∷ 0x75 ∷ 0x65 ∷ []) bs k) })
       λ _ k. let n = number-sound (b ∷ bs) k in record { value = Value.number (n .is); whole = n .whole }
 
-  elements-sound : (bs r : List ℕ) → rule f elements bs ≡ some r → Elements bs r
+  elements-sound : (bs r : List ℕ) → rule f elements bs ≡ some r → Listed bs r
   unfolding rule valueBytes
   elements-sound bs r e = by-then (f a-value bs) _ e λ m h e.
       let v = ih a-value bs m h in
@@ -111,7 +111,7 @@ module _ (f : Kind → List ℕ → Rest) (ih : (k : Kind) (bs r : List ℕ) →
         whole = v .whole ∙ before (valueBytes (v .value)) (s .whole ∙ before (s .part) (k ∙ ahead 0x2C (s′ .whole ∙ before (s′ .part) (d .whole)))) ∙ simp append-assoc;
       }
 
-  members-sound : (bs r : List ℕ) → rule f members bs ≡ some r → Entries bs r
+  members-sound : (bs r : List ℕ) → rule f members bs ≡ some r → Paired bs r
   unfolding rule string valueBytes
   members-sound bs r e =
       by-then (byte 0x22 0x22 bs) _ e λ m₁ h₁ e. by-then (string m₁) _ e λ m₂ h₂ e. by-then (byte 0x3A 0x3A (skip m₂)) _ e λ m₃ h₃ e.
@@ -154,10 +154,10 @@ accepted-text bs e = go (read (suc (length bs + length bs)) a-value (skip bs)) r
   where
     last : (r : List ℕ) → ended (some r) ≡ true → r ≡ []
     last [] e = refl
-    last (b ∷ r) e = let z : _≡_ {A = ℕ} 0 1 = cc in absurd (omega arith)
+    last (b ∷ r) e = absurd (false≢true e)
 
     go : (x : Rest) → read (suc (length bs + length bs)) a-value (skip bs) ≡ x → ended (then x (λ r. some (skip r))) ≡ true → Text bs
-    go none f e = let z : _≡_ {A = ℕ} 0 1 = cc in absurd (omega arith)
+    go none f e = absurd (false≢true e)
     go (some r) f e =
         let s = skip-sound bs in
         let v = read-sound _ a-value (skip bs) r f in

@@ -1,7 +1,7 @@
 -- One step of the walk into a value that is derived: a part with what is taken from its node, or one of 23 to 26 where nothing is. By cases of
 -- the value and the step.
-use mathlib.Core.Path.{_≡_, refl, sym, ap, _∙_}
-use mathlib.Core.Bool.{Bool, true, false, _&&_}
+use mathlib.Core.Path.{_≡_, refl, ap, _∙_}
+use mathlib.Core.Bool.{true, false}
 use mathlib.Core.Logic.{_≢_}
 use mathlib.Core.List.{List, [], _∷_, _++_, append-nil}
 use Prim.Native.Nat.{ℕ, suc, _+_, _-_, _≤_, _<_}
@@ -24,9 +24,9 @@ use Rattle.query.specs.declared.types.Refusal.the-variants.{NotObject, NotArray
 use Rattle.query.proofs.PlaceLaws.{first-at}
 use Rattle.json.specs.Grammar.{Ws, Number, stringBytes}
 use Rattle.json.specs.Select.{Json, scalar, nth, deep}
-use Rattle.json.proofs.Padded.{Bare, Pad, Elems, Entry, Entries, bareBytes, padBytes, elemsBytes, entryBytes, entriesBytes, bareTree}
+use Rattle.json.proofs.Tests.{and-false}
+use Rattle.json.proofs.Padded.{number-starts, Bare, Pad, Elems, Entry, Entries, bareBytes, padBytes, elemsBytes, entryBytes, entriesBytes, bareTree}
 use Rattle.json.proofs.Machine.{up, sortOf, out}
-use Rattle.json.proofs.Derive.{Solids, number-solids, number-first}
 use Rattle.json.proofs.Trace.{At, Stepped, at-step, Seg}
 use Rattle.json.proofs.Stretches.{seg-left, seg-right}
 use Rattle.json.proofs.Parts.{Ends, ws-blank, all-blank}
@@ -78,10 +78,6 @@ module _ (text : List ℕ) (k : ℕ) where
   not-framed : (c c′ a e : ℕ) → getD text a 0 ≢ c → framed (byteIn text) c c′ a e ≡ false
   unfolding framed byteIn
   not-framed c c′ a e h = rw (ne-eqb (getD text a 0) c h) (and-false (ltb (a + 1) e))
-    where
-      and-false : (b : Bool) → (b && false) ≡ false
-      and-false true = refl
-      and-false false = refl
 
   no-object : (n : List ℕ) (a e : ℕ) → getD text a 0 ≢ 0x7B → nameStep (byteIn text) (ruled text) (suc k) n a e ≡ Refused NotObject
   unfolding nameStep
@@ -98,26 +94,26 @@ module _ (text : List ℕ) (k : ℕ) where
 
   -- ---- what lies between is no blank where it begins with a value or a name
 
-  record Dark (a e : ℕ) : Type 0 where
+  record Filled (a e : ℕ) : Type 0 where
     place : ℕ
     is-start : trimStart (byteIn text) a e ≡ place
     below : place < e
 
-  dark : {w : List ℕ} (a e n : ℕ) → Ws w → Seg text a w → Ends text (a + length w) n → a + length w + n ≤ e → Dark a e
+  dark : {w : List ℕ} (a e n : ℕ) → Ws w → Seg text a w → Ends text (a + length w) n → a + length w + n ≤ e → Filled a e
   dark {w} a e n b g h l = record {
     place = a + length w;
     is-start = first-at (solid (byteIn text)) a (a + length w) e (omega arith) (omega (arith, h .size)) (ws-blank text a b g) (h .first-solid);
     below = omega (arith, h .size);
   }
 
-  pad-dark : (a : ℕ) (p : Pad) (ys : List ℕ) → Seg text a (padBytes p ++ ys) → Dark a (a + length (padBytes p ++ ys))
+  pad-dark : (a : ℕ) (p : Pad) (ys : List ℕ) → Seg text a (padBytes p ++ ys) → Filled a (a + length (padBytes p ++ ys))
   pad-dark a (Pad.pad {w} {w′} b v b′) ys g =
       let h = seg-left text a (w ++ (bareBytes v ++ w′)) ys g in
       dark a _ (length (bareBytes v)) b (seg-left text a w (bareBytes v ++ w′) h)
       (value-ends text (a + length w) v (seg-left text (a + length w) (bareBytes v) w′ (seg-right text a w (bareBytes v ++ w′) h)))
       (omega (arith, length-append (w ++ (bareBytes v ++ w′)) ys, length-append w (bareBytes v ++ w′), length-append (bareBytes v) w′))
 
-  entry-dark : (a : ℕ) (m : Entry) (ys : List ℕ) → Seg text a (entryBytes m ++ ys) → Dark a (a + length (entryBytes m ++ ys))
+  entry-dark : (a : ℕ) (m : Entry) (ys : List ℕ) → Seg text a (entryBytes m ++ ys) → Filled a (a + length (entryBytes m ++ ys))
   entry-dark a (Entry.entry {w} {raw} {us} {w′} b s b′ p) ys g =
       let xs : List ℕ = w ++ (stringBytes raw ++ w′) in
       let h = seg-left text a xs (0x3A ∷ padBytes p) (seg-left text a (xs ++ (0x3A ∷ padBytes p)) ys g) in
@@ -125,11 +121,11 @@ module _ (text : List ℕ) (k : ℕ) where
       (bracket-ends text (a + length w) 0x22 0x22 raw (omega arith) (omega arith) (seg-left text (a + length w) (stringBytes raw) w′ (seg-right text a w (stringBytes raw ++ w′) h)))
       (omega (arith, length-append (xs ++ (0x3A ∷ padBytes p)) ys, length-append xs (0x3A ∷ padBytes p), length-append w (stringBytes raw ++ w′), length-append (stringBytes raw) w′))
 
-  elems-dark : (a : ℕ) (es : Elems) → Seg text a (elemsBytes es) → Dark a (a + length (elemsBytes es))
+  elems-dark : (a : ℕ) (es : Elems) → Seg text a (elemsBytes es) → Filled a (a + length (elemsBytes es))
   elems-dark a (Elems.last p) g = rw append-nil at (pad-dark a p [] (rw append-nil g))
   elems-dark a (Elems.more p es) g = pad-dark a p (0x2C ∷ elemsBytes es) g
 
-  entries-dark : (a : ℕ) (ms : Entries) → Seg text a (entriesBytes ms) → Dark a (a + length (entriesBytes ms))
+  entries-dark : (a : ℕ) (ms : Entries) → Seg text a (entriesBytes ms) → Filled a (a + length (entriesBytes ms))
   entries-dark a (Entries.last-entry m) g = rw append-nil at (entry-dark a m [] (rw append-nil g))
   entries-dark a (Entries.more-entries m ms) g = entry-dark a m (0x2C ∷ entriesBytes ms) g
 
@@ -199,10 +195,9 @@ module _ (text : List ℕ) (k : ℕ) where
   number-value : (s : Selector) (a : ℕ) (bs : List ℕ) → Number bs → Seg text a bs
       → Outcome text (suc k) (rawChildren s (scalar a bs)) (stepBy (byteIn text) (ruled text) (suc k) s a (a + length bs))
   number-value s a bs n g =
-      let f = number-first n in
-      let so : Solids (f .0 ∷ f .1) = rw (f .2) at (number-solids n) in
-      let sg : Seg text a (f .0 ∷ f .1) = rw (f .2) at g in
-      scalar-step s a _ bs (λ e. so .0 .apart .open-object (sym (sg .0) ∙ e)) (λ e. so .0 .apart .open-array (sym (sg .0) ∙ e))
+      let f = number-starts n in
+      let sg : Seg text a (f .first ∷ f .rest) = rw (f .whole) at g in
+      scalar-step s a _ bs (λ e. omega (arith, e, sg .0, f .high)) (λ e. omega (arith, e, sg .0, f .high))
 
   -- the step, at any value
   pub step-right : (s : Selector) (a : ℕ) (v : Bare) → Good text k a v

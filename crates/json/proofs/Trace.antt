@@ -16,12 +16,9 @@ use Rattle.rules.specs.Bytes.{Class, quote, backslash, opens, closes, colon, co
 use Rattle.rules.specs.Bits.{runBefore, escaped, quoteBit, inString, maskBit, plain, opener, closer, atDepth, levelBit}
 use Rattle.rules.specs.Faults.{closesNone, opensOver}
 use Rattle.rules.proofs.RuleLaws.{escaped-suc, inString-suc, mask-inside, has-past}
+use Rattle.json.proofs.Tests.{and-false}
 use Rattle.json.proofs.Machine as M
 use Rattle.json.proofs.Machine.{sortOf, Apart, sort-plain, State, out, str, esc, step, ok, less, go, passed, inside-other}
-
-and-false : (b : Bool) → (b && false) ≡ false
-and-false true = refl
-and-false false = refl
 
 -- ---- which of the bytes it is
 
@@ -36,15 +33,15 @@ data Look (b : ℕ) : Type 0 where
   names : b ≡ 0x3A → Look b
   other : Apart b → Look b
 
-either : {A : Type 0} {b n : ℕ} → Dec (b ≡ n) → (b ≡ n → A) → (b ≢ n → A) → A
-either (yes e) f g = f e
-either (no h) f g = g h
+whether : {A : Type 0} {b n : ℕ} → Dec (b ≡ n) → (b ≡ n → A) → (b ≢ n → A) → A
+whether (yes e) f g = f e
+whether (no h) f g = g h
 
 look : (b : ℕ) → Look b
 look b =
-    either (ℕ-discrete b 0x22) quotes λ h1. either (ℕ-discrete b 0x5C) slashes λ h2. either (ℕ-discrete b 0x5B) opens-array λ h3.
-    either (ℕ-discrete b 0x7B) opens-object λ h4. either (ℕ-discrete b 0x5D) closes-array λ h5. either (ℕ-discrete b 0x7D) closes-object λ h6.
-    either (ℕ-discrete b 0x2C) separates λ h7. either (ℕ-discrete b 0x3A) names λ h8.
+    whether (ℕ-discrete b 0x22) quotes λ h1. whether (ℕ-discrete b 0x5C) slashes λ h2. whether (ℕ-discrete b 0x5B) opens-array λ h3.
+    whether (ℕ-discrete b 0x7B) opens-object λ h4. whether (ℕ-discrete b 0x5D) closes-array λ h5. whether (ℕ-discrete b 0x7D) closes-object λ h6.
+    whether (ℕ-discrete b 0x2C) separates λ h7. whether (ℕ-discrete b 0x3A) names λ h8.
     other (record { quote = h1; slash = h2; open-array = h3; open-object = h4; close-array = h5; close-object = h6; comma = h7; colon = h8 })
 
 -- a byte that is none of them is in no class
@@ -181,9 +178,9 @@ module _ (text : List ℕ) (i : ℕ) (q : Bool) (d : ℕ) where
   str-step : (k : ℕ) → At text i (str k) → ok q d (str k) (sortOf (getD text i 0)) ≡ true → Stepped text i q d (step (str k) (sortOf (getD text i 0)))
   unfolding is
   str-step k h l =
-      either (ℕ-discrete (getD text i 0) 0x22)
+      whether (ℕ-discrete (getD text i 0) 0x22)
       (λ e. rw e (inner k false (out k) (h .escaping) (h .within) (h .depth) refl (rw e) (rw e) (λ z. absurd (true≢false (sym (rw e at l) ∙ z)))))
-      λ f. either (ℕ-discrete (getD text i 0) 0x5C)
+      λ f. whether (ℕ-discrete (getD text i 0) 0x5C)
       (λ e. rw e (inner k false (esc k) (h .escaping) (h .within) (h .depth) refl (rw e) (rw e) (λ z. rw e)))
       λ g. rw (inside-other q d k f g .0)
       (inner k false (str k) (h .escaping) (h .within) (h .depth) refl (rw (ne-eqb (getD text i 0) 0x5C g)) (rw (ne-eqb (getD text i 0) 0x22 f)) (λ z. rw (ne-eqb (getD text i 0) 0x22 f)))

@@ -1,9 +1,7 @@
 -- The table of texts: one computed test over it, which the recogniser's exactness turns into a claim about the grammar.
 use mathlib.Core.Path.{_≡_, refl}
-use mathlib.Core.Bool.{Bool, true, false, not, _&&_}
+use mathlib.Core.Bool.{Bool, true, false, not, _&&_, false≢true}
 use mathlib.Core.List.{List, [], _∷_}
-use Prim.Native.Nat.{ℕ}
-use native.Mathlib.Omega.{arith}
 use lib.Dec.{T}
 use Rattle.json.specs.Texts.{Row, accepted, refused, bytes, Meant, table}
 use Rattle.json.proofs.Recogniser.{within, byte, literal, blank, skip, digits, digits1, minus, sign, int, frac, exp, number, hexdig, short, escape, wide, char, chars, string, closed, next, rule, read, accepts}
@@ -32,8 +30,8 @@ meant (refused s ∷ rows) t =
     ((λ x. let e = text-accepted (bytes s) x in no (accepts (bytes s)) e (h .0)), meant rows (h .1))
   where
     no : (b : Bool) → b ≡ true → not b ≡ true → ⊥
-    no true e f = let z : _≡_ {A = ℕ} 0 1 = cc in omega arith
-    no false e f = let z : _≡_ {A = ℕ} 0 1 = cc in omega arith
+    no true e f = false≢true f
+    no false e f = false≢true e
 
 tried : T (every table)
 unfolding every right table within byte literal blank skip digits digits1 minus sign int frac exp number hexdig short escape wide char chars string closed next rule read accepts

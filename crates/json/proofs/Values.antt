@@ -13,9 +13,9 @@ use Rattle.query.specs.declared.items.Item.{Item}
 use Rattle.query.specs.declared.items.Item.the-variants.{Found, Other}
 use Rattle.json.specs.Grammar.{Number}
 use Rattle.json.specs.Select.{Json, deep}
-use Rattle.json.proofs.Padded.{Bare, Pad, bareBytes, padBytes, elemsBytes, entriesBytes, bareTree, padded}
+use Rattle.json.proofs.Padded.{number-starts, Bare, Pad, bareBytes, padBytes, elemsBytes, entriesBytes, bareTree, padded}
 use Rattle.json.proofs.Machine.{out}
-use Rattle.json.proofs.Derive.{Solids, number-solids, number-first, plains-run, ws-plains}
+use Rattle.json.proofs.Derive.{Solids, number-solids, plains-run, ws-plains}
 use Rattle.json.proofs.Trace.{At, Seg, trace}
 use Rattle.json.proofs.Stretches.{seg-left, seg-right, seg-at}
 use Rattle.json.proofs.Parts.{Ends, solid-here, value-mid}
@@ -49,8 +49,8 @@ module _ (text : List ℕ) where
 
   number-ends : (a : ℕ) (bs : List ℕ) → Number bs → Seg text a bs → Ends text a (length bs)
   number-ends a bs n g =
-      let f = number-first n in
-      rw (f .2) (solid-ends a (f .0) (f .1) (rw (f .2) at (number-solids n)) (rw (f .2) at g))
+      let f = number-starts n in
+      rw (f .whole) (solid-ends a (f .first) (f .rest) (rw (f .whole) at (number-solids n)) (rw (f .whole) at g))
 
   pub value-ends : (a : ℕ) (v : Bare) → Seg text a (bareBytes v) → Ends text a (length (bareBytes v))
   value-ends a Bare.false g = solid-ends a 0x66 (0x61 ∷ 0x6C ∷ 0x73 ∷ 0x65 ∷ []) (omega arith) g
