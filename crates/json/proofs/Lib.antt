@@ -9,6 +9,7 @@ pub mod CompleteNumbers
 pub mod CompleteStrings
 pub mod CompleteValues
 pub mod Trials
+pub mod Characters
 pub mod Machine
 pub mod Derive
 pub mod Trace

@@ -67,8 +67,8 @@ utf8-unit (UTF8-char.utf8-4c i j k) = several (UTF8-char.utf8-4c i j k) (omega a
 
 char-unit : {b : List ℕ} {u : ℕ} (bs : List ℕ) → Char b u → Unescaped (b ++ bs) → UnitOf b u
 char-unit bs (Char.unescaped c n) h = utf8-unit c
-char-unit bs (Char.short s) h = absurd (h .0 refl)
-char-unit bs (Char.uXXXX i j k l) h = absurd (h .0 refl)
+char-unit bs (Char.short s) h = absurd (omega (arith, h .0))
+char-unit bs (Char.uXXXX i j k l) h = absurd (omega (arith, h .0))
 
 raw-same : {raw us : List ℕ} (n : List ℕ) → Chars raw us → Unescaped raw → Ascii n → same us n ≡ same raw n
 unfolding same

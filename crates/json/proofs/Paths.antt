@@ -110,7 +110,7 @@ module _ (text : List ℕ) (kids : Selector → Json → List Json) (P : Json �
           → ((a : ℕ) (v : Bare) → P (bareTree a v) → Good text (suc k) a v → a + length (bareBytes v) ≤ length text
           → Selects text (along kids ss (bareTree a v ∷ [])) (walkFrom (byteIn text) (ruled text) (suc (suc k)) ss a (a + length (bareBytes v))))
           → Selects text (along kids ss (flat (kids s) (bareTree a v ∷ []))) (onFound x (λ b f. walkFrom (byteIn text) (ruled text) (suc k + 1) ss b f) Refused)
-      go (Outcome.miss why h e f) p i r = rw (e, f, along-none kids ss) (Selects.none h)
+      go (Outcome.miss why h e f) p i r = rw (e, f, along-none kids ss) (Selects.none {why = why} (omega (arith, h)))
       go (Outcome.hit a v e f g) p i r =
           let pa : P (bareTree a v) × Unit {0} = rw e at p in
           let fits : Within (length text) (Found a (a + length (bareBytes v))) = rw f at i in
@@ -175,7 +175,7 @@ unfolding select
 walk-selects text t path ss p =
     rw (along-segments ss (root t ∷ [])) at
     (from-whole text children Fair PlainName children-same (λ s x h. all-fair (children s x) (children-fair s x h)) (root t) ss (path-plain p) (t .fair)
-    (whole text (t .json) (t .shallow)))
+    (whole text (t .json) (omega (arith, t .shallow))))
 
 -- whatever the names: no broken item
 all-true : (ts : List Json) → All (λ _. Unit {0}) ts
