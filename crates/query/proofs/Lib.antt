@@ -14,3 +14,5 @@ pub mod Machine
 pub mod Grammars
 pub mod Reading
 pub mod Agree
+pub mod Stops
+pub mod Numbers

@@ -6,3 +6,4 @@ pub mod Path
 pub mod Walk
 pub mod Answers
 pub mod Reports
+pub mod Conditions
