@@ -1,17 +1,17 @@
 -- The answer depends on the words only through the bits it may read: places below n, levels up to the number of steps. Bits that agree there give the
 -- same items, steps and walks, one after another; and promised words agree with the rules.
 use Prim.Native.Nat.{ℕ, zero, suc, _+_, _-_, _≤_, _<_}
-use mathlib.Core.Path.{_≡_, refl, sym, ap, ap₂, _∙_}
+use mathlib.Core.Path.{_≡_, refl, ap, ap₂}
 use mathlib.Core.Bool.{Bool, true, false, not, _&&_}
 use mathlib.Core.List.{List, [], _∷_}
 use native.Mathlib.Omega.{arith}
 use lib.Dec.{eqb, ltb, leb}
 use lib.ListN.{length}
-use borrow.Author.Tests.{ltb-true, ltb-false}
+use borrow.Author.Tests.{ltb-true}
 use Rattle.rules.specs.Word.{pick}
 use Rattle.rules.specs.Layout.{quotes, colons, commas, widthOf, sizeOf, Promise}
 use Rattle.rules.proofs.LayoutLaws.{promised-bit}
-use Rattle.query.specs.Places.{byteIn, between, firstIn, firstAt}
+use Rattle.query.specs.Places.{byteIn, firstIn, firstAt}
 use Rattle.query.specs.Grammar.{Selector, name, number, Path}
 use Rattle.query.specs.Path.{Reading, good, bad, readPath, large}
 use Rattle.query.specs.Items.{Bits, lent, ruled, solid, trimStart, trimEnd, valueAt, same, quoted, keyed, itemAt, orElse, itemsIn, items, itemNo}
@@ -19,7 +19,7 @@ use Rattle.query.specs.Walk.{onFound, ofItem, framed, filled, nameStep, 
 use Rattle.query.specs.Answers.{afterReading, answerOf}
 use Rattle.query.specs.declared.items.Item.{Item}
 use Rattle.query.specs.declared.items.Item.the-variants as Items
-use Rattle.query.specs.declared.types.Cause.the-variants.{NoColon, BadName, EmptyValue}
+use Rattle.query.specs.declared.types.Cause.the-variants.{EmptyValue}
 use Rattle.query.specs.declared.types.Refusal.the-variants.{EmptyRecord, LongRecord, BadLevels, BadBuffer, TooLarge, TooDeep, NotObject, NotArray, NoName, NoNumber, Broken}
 use Rattle.query.specs.declared.types.Answer.{Answer}
 use Rattle.query.specs.declared.types.Answer.the-variants.{Found, Refused}

@@ -2,7 +2,7 @@
 use Prim.Native.Nat.{ℕ, zero, suc, _+_, _-_, _≤_, _<_, min}
 use mathlib.Core.Path.{_≡_, refl, sym, ap, _∙_}
 use mathlib.Core.Bool.{Bool, true, false, _||_}
-use mathlib.Core.List.{List, [], _∷_}
+use mathlib.Core.List.{List}
 use native.Mathlib.Omega.{arith}
 use native.Mathlib.Nat.{add-zero, zero-add}
 use lib.Dec.{ltb, eqb}
@@ -12,7 +12,6 @@ use Rattle.rules.specs.Word.{pick}
 use Rattle.query.specs.Places.{byteIn, between}
 use Rattle.query.specs.Grammar.{Selector, name, number}
 use Rattle.query.specs.Path.{stepAt, told, Reading, good, bad, before, readFrom, readPath, large, verdictOf, checked, pathCheck}
-use Rattle.query.specs.declared.path.Step.{Step}
 use Rattle.query.specs.declared.path.Step.the-variants.{Name, Number, End, Refused}
 use Rattle.query.specs.declared.path.Checked.{Checked}
 use Rattle.query.specs.declared.path.Checked.the-variants.{Fine, Bad, TooLarge, TooDeep}

@@ -1,5 +1,5 @@
 -- Where the walk along a path stands: the walk from here is the walk from the start, and the selectors that are left are those read from here on.
-use Prim.Native.Nat.{ℕ, zero, suc, _+_, _≤_, _<_, min}
+use Prim.Native.Nat.{ℕ, zero, suc, _+_, _≤_, min}
 use mathlib.Core.Path.{_≡_, refl, sym, ap, _∙_, subst}
 use mathlib.Core.Bool.{Bool, true, false, _||_}
 use mathlib.Core.List.{List, [], _∷_}
@@ -20,7 +20,7 @@ use Rattle.query.specs.declared.path.Checked.the-variants.{Fine}
 use Rattle.query.specs.declared.types.Refusal.{Refusal}
 use Rattle.query.specs.declared.types.Answer.the-variants.{Found, Refused}
 use Rattle.query.proofs.PathLaws.{name-told, number-told}
-use Rattle.query.proofs.Checking.{Fits, fits-fine}
+use Rattle.query.proofs.Checking.{fits-fine}
 use Rattle.query.proofs.Inside.{In, step-in}
 
 pub record Going (text words : List ℕ) (s : Shape) (path : List ℕ) (from to a e at k : ℕ) : Type 0 where

@@ -16,3 +16,5 @@ pub mod Reading
 pub mod Agree
 pub mod Stops
 pub mod Numbers
+pub mod ItemCount
+pub mod Outcomes

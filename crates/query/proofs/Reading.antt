@@ -5,7 +5,7 @@ use mathlib.Core.Path.{_≡_, refl, sym, ap, ap₂, _∙_, subst}
 use mathlib.Core.Bool.{Bool, true, false, not, true≢false}
 use mathlib.Core.List.{List, [], _∷_, _++_, append-nil, append-assoc}
 use mathlib.Core.Logic.{⊎-elim}
-use native.Mathlib.Nat.{eq-or-lt-of-le, lt-of-not-le}
+use native.Mathlib.Nat.{eq-or-lt-of-le}
 use native.Mathlib.Numerals.{add-one}
 use native.Mathlib.Omega.{arith}
 use lib.Dec.{eqb, ltb}
@@ -13,7 +13,7 @@ use lib.ListN.{length, getD, take, drop, take-append-drop, List·getD-eq-default
 use lib.Seq.{drop-cons, drop-length, take-take}
 use borrow.Author.Tests.{ltb-true, ltb-false, eqb-true, not-true, not-false, ne-eqb}
 use Rattle.rules.specs.Word.{pick}
-use Rattle.query.specs.Places.{byteIn, between, firstAt}
+use Rattle.query.specs.Places.{byteIn, between}
 use Rattle.query.specs.Grammar.{Selector, name, number, Path, Begins, RefusedAt}
 use Rattle.query.specs.Path.{isDigit, isHead, isTail, runEnd, decimal, numberEnd, closed, nameAt, numberAt, stepAt, onStep, Reading, good, bad, before, readFrom, readPath}
 use Rattle.query.specs.declared.path.Step.{Step}

@@ -1,7 +1,7 @@
 -- Reading a path, one step at a time. "Reading a step hands back either the step with what follows it, or a refusal with its place."
 -- (proofs/Reading.antt: it reads exactly the paths of the grammar.)
 use Prim.Native.Nat.{ℕ, zero, suc, _+_, _-_, _*_, min}
-use mathlib.Core.Bool.{Bool, true, false, not, _&&_, _||_}
+use mathlib.Core.Bool.{Bool, false, not, _&&_, _||_}
 use mathlib.Core.List.{List, [], _∷_}
 use lib.ListN.{length, getD}
 use lib.Dec.{ltb, leb, eqb}

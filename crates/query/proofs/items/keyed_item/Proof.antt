@@ -3,7 +3,6 @@ use Prim.Native.Nat.{_+_, _≤_, _<_}
 use mathlib.Core.Path.{sym, _∙_}
 use native.Mathlib.Omega.{arith}
 use borrow.Author.Tests.{not-true, not-false}
-use lib.ListN.{length}
 use Rattle.query.specs.Places.{byteIn}
 use Rattle.query.specs.Items.{solid, keyed}
 use Rattle.query.proofs.PlaceLaws.{first-le, last-bounds}

@@ -1,11 +1,11 @@
 -- The loop keeps that the check of the rest, with what was seen before it, is the check of the path.
-use Prim.Native.Nat.{ℕ, _+_, _-_, _≤_, _<_}
-use mathlib.Core.Path.{_≡_, refl, sym, ap, _∙_}
+use Prim.Native.Nat.{_+_, _-_, _<_}
+use mathlib.Core.Path.{sym, _∙_}
 use mathlib.Core.Logic.{⊎-elim}
 use native.Mathlib.Omega.{arith}
 use borrow.Author.Tests.{lt-ltb, le-ltb, ne-eqb}
 use lib.ListN.{length, List·getD-eq-default}
-use Rattle.query.specs.Path.{readFrom, readPath, pathCheck}
+use Rattle.query.specs.Path.{readPath, pathCheck}
 use Rattle.query.proofs.Checking.{Checking, checking-start, checking-name, checking-number, checking-end, checking-bad}
 use borrow.Author.Needs.{needs}
 use Rattle.query.proofs.path.check_path.Statement.{statement}
