@@ -10,11 +10,11 @@ use Rattle.rules.specs.Word.{pick, digit, count}
 use Rattle.rules.proofs.Counting.{count-cat}
 use Rattle.query.specs.Places.{firstAt}
 use Rattle.query.specs.Items.{trimStart, trimEnd, valueAt, itemNo}
+use Rattle.query.specs.Conditions.{Exactly}
 use Rattle.query.specs.declared.items.Item.the-variants.{Found, Other, Broken}
 use Rattle.query.specs.declared.types.Cause.the-variants.{EmptyValue}
 use Rattle.query.proofs.PlaceLaws.{first-ge, first-le, first-hit, first-miss}
 use Rattle.query.proofs.Standing.{count-none}
-use Rattle.query.proofs.Stops.{Exactly}
 
 -- places without t count nothing
 count-same : (t : ℕ → Bool) (a b : ℕ) → a ≤ b → ((i : ℕ) → a ≤ i → i < b → t i ≡ false) → count t b ≡ count t a

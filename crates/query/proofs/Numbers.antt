@@ -16,7 +16,7 @@ use Rattle.query.specs.Path.{Reading, good, bad, readPath, large}
 use Rattle.query.specs.Items.{lent}
 use Rattle.query.specs.Walk.{walk}
 use Rattle.query.specs.Answers.{refusalNumber, numberOf, placeOf, afterReading, answerOf}
-use Rattle.query.specs.Conditions.{Sized, Levelled, Lendable, Brief, Walkable, Given, empty, long, levels-out, other-buffer, long-path, no-path, large-number, deep, walked, Walks, Halts, WalkStops}
+use Rattle.query.specs.Conditions.{Exactly, Sized, Levelled, Lendable, Brief, Walkable, Given, empty, long, levels-out, other-buffer, long-path, no-path, large-number, deep, walked, Walks, Halts, WalkStops}
 use Rattle.query.specs.declared.types.Cause.{Cause}
 use Rattle.query.specs.declared.types.Refusal.{Refusal}
 use Rattle.query.specs.declared.types.Refusal.the-variants.{EmptyRecord, LongRecord, BadLevels, BadBuffer, BadPath, TooLarge, TooDeep, NotObject, NotArray, NoName, NoNumber, Broken}
@@ -24,7 +24,7 @@ use Rattle.query.specs.declared.types.Answer.{Answer}
 use Rattle.query.specs.declared.types.Answer.the-variants.{Found, Refused}
 use Rattle.query.proofs.PlaceLaws.{pick-ind}
 use Rattle.query.proofs.Reading.{reads, read-is-path, refused-is-place, place-is-refused}
-use Rattle.query.proofs.Stops.{Exactly, walk-stops, walk-number}
+use Rattle.query.proofs.Stops.{walk-stops, walk-number}
 
 module _ (text words : List ℕ) (levels : ℕ) (path : List ℕ) where
   -- ---- what is answered is given

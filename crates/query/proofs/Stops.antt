@@ -13,7 +13,7 @@ use Rattle.query.specs.Grammar.{Selector, name, number}
 use Rattle.query.specs.Items.{Bits, trimStart, trimEnd, valueAt, itemAt, items, itemNo}
 use Rattle.query.specs.Walk.{onFound, ofItem, framed, filled, nameStep, numberStep, stepBy, walkFrom, walk}
 use Rattle.query.specs.Answers.{refusalNumber}
-use Rattle.query.specs.Conditions.{Stops, not-object, not-array, no-member, no-name, no-element, no-number, broken-member, broken-element, StopsFrom, here, later, WalkStops, blank, within}
+use Rattle.query.specs.Conditions.{Exactly, Stops, not-object, not-array, no-member, no-name, no-element, no-number, broken-member, broken-element, StopsFrom, here, later, WalkStops, blank, within}
 use Rattle.query.specs.declared.items.Item.{Item}
 use Rattle.query.specs.declared.items.Item.the-variants as Items
 use Rattle.query.specs.declared.types.Cause.the-variants.{EmptyValue}
@@ -21,10 +21,6 @@ use Rattle.query.specs.declared.types.Refusal.{Refusal}
 use Rattle.query.specs.declared.types.Refusal.the-variants.{NotObject, NotArray, NoName, NoNumber, Broken}
 use Rattle.query.specs.declared.types.Answer.{Answer}
 use Rattle.query.specs.declared.types.Answer.the-variants.{Found, Refused}
-
--- the one and the other, each from the other
-abbrev pub Exactly : Type 0 → Type 0 → Type 0
-Exactly P Q = (P → Q) × (Q → P)
 
 module _ (byte : ℕ → ℕ) (bits : Bits) where
   name-stops : (k : ℕ) (n : List ℕ) (a e : ℕ) (why : Refusal) → nameStep byte bits k n a e ≡ Refused why → Stops byte bits k (name n) a e why
