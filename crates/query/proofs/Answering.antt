@@ -10,7 +10,8 @@ use denote.Enum.Declared.{tagOf}
 use Rattle.rules.specs.Word.{pick}
 use Rattle.rules.specs.Layout.{widthOf}
 use Rattle.query.specs.Grammar.{Selector}
-use Rattle.query.specs.Path.{Reading, good, bad, readPath, large, checked, pathCheck}
+use Rattle.query.specs.Path.{Reading, good, bad, readPath, large}
+use Rattle.query.specs.Helpers.{checked, pathCheck}
 use Rattle.query.specs.Items.{lent, trimStart, trimEnd, valueAt}
 use Rattle.query.specs.Walk.{ofItem, walk}
 use Rattle.query.specs.Answers.{afterReading}

@@ -11,7 +11,8 @@ use borrow.Author.Tests.{le-ltb, lt-ltb, ltb-true, ltb-false, eq-eqb}
 use Rattle.rules.specs.Word.{pick}
 use Rattle.query.specs.Places.{byteIn, between}
 use Rattle.query.specs.Grammar.{Selector, name, number}
-use Rattle.query.specs.Path.{stepAt, told, Reading, good, bad, before, readFrom, readPath, large, verdictOf, checked, pathCheck}
+use Rattle.query.specs.Path.{stepAt, Reading, good, bad, before, readFrom, readPath, large}
+use Rattle.query.specs.Helpers.{told, verdictOf, checked, pathCheck}
 use Rattle.query.specs.declared.path.Step.the-variants.{Name, Number, End, Refused}
 use Rattle.query.specs.declared.path.Checked.{Checked}
 use Rattle.query.specs.declared.path.Checked.the-variants.{Fine, Bad, TooLarge, TooDeep}

@@ -10,7 +10,8 @@ use borrow.Author.Tests.{ltb-false}
 use Rattle.rules.specs.Word.{pick}
 use Rattle.query.specs.Places.{byteIn, between}
 use Rattle.query.specs.Grammar.{Selector, name, number}
-use Rattle.query.specs.Path.{stepAt, told, Reading, good, bad, before, readFrom, readPath, large, pathCheck}
+use Rattle.query.specs.Path.{stepAt, Reading, good, bad, before, readFrom, readPath, large}
+use Rattle.query.specs.Helpers.{told, pathCheck}
 use Rattle.query.specs.Items.{lent}
 use Rattle.query.specs.Walk.{nameStep, numberStep, stepBy, walkFrom}
 use Rattle.query.specs.declared.bits.Shape.{Shape}

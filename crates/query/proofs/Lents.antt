@@ -7,7 +7,7 @@ use native.Mathlib.Nat.{mul-le-mul-right}
 use lib.ListN.{length}
 use Rattle.rules.specs.Layout.{widthOf, sizeOf, address, Has}
 use Rattle.rules.proofs.LayoutLaws.{address-lt}
-use Rattle.query.specs.Lent.{mapped, Readable, Lent}
+use Rattle.query.specs.Helpers.{mapped, Readable, Lent}
 use Rattle.query.specs.declared.bits.Map.{Map}
 use Rattle.query.specs.declared.bits.Shape.{Shape}
 

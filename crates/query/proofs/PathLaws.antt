@@ -9,7 +9,8 @@ use lib.Dec.{leb, ltb, eqb}
 use lib.ListN.{length, getD, List·getD-eq-default}
 use borrow.Author.Tests.{le-leb, lt-leb, leb-true, ne-eqb}
 use Rattle.rules.specs.Word.{pick}
-use Rattle.query.specs.Path.{inRange, isDigit, isHead, isTail, runEnd, decimal, numberEnd, closed, nameAt, numberAt, stepAt, onStep, told}
+use Rattle.query.specs.Path.{inRange, isDigit, isHead, isTail, runEnd, decimal, numberEnd, closed, nameAt, numberAt, stepAt, onStep}
+use Rattle.query.specs.Helpers.{told}
 use Rattle.query.specs.declared.path.Step.{Step}
 use Rattle.query.specs.declared.path.Step.the-variants.{Name, Number, End, Refused}
 use Rattle.query.proofs.PlaceLaws.{pick-ind, first-next, first-ge, first-le}

@@ -4,7 +4,7 @@ use mathlib.Core.Path.{_≡_, refl, sym, _∙_}
 use native.Mathlib.Omega.{arith}
 use Rattle.rules.specs.Layout.{bitIn}
 use Rattle.query.specs.Places.{nthAt}
-use Rattle.query.specs.Lent.{mapped}
+use Rattle.query.specs.Helpers.{mapped}
 use Rattle.query.proofs.PlaceLaws.{nth-after, nth-past, nth-first}
 use borrow.Author.Needs.{needs}
 use Rattle.query.proofs.bits.bit_by_bit.Statement.{statement}

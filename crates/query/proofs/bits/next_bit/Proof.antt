@@ -5,7 +5,7 @@ use native.Mathlib.Omega.{arith}
 use lib.Count.{trailing-le}
 use Rattle.rules.specs.Layout.{bitIn}
 use Rattle.query.specs.Places.{firstAt}
-use Rattle.query.specs.Lent.{mapped}
+use Rattle.query.specs.Helpers.{mapped}
 use Rattle.query.proofs.PlaceLaws.{first-none, first-skip, first-at, first-all}
 use Rattle.query.proofs.Standing.{Standing, standing-from, standing-whole, standing-zero, standing-low}
 use Rattle.query.proofs.Lents.{readable-to}

@@ -5,7 +5,8 @@ use mathlib.Core.Logic.{⊎-elim}
 use native.Mathlib.Omega.{arith}
 use borrow.Author.Tests.{lt-ltb, le-ltb, ne-eqb}
 use lib.ListN.{length, List·getD-eq-default}
-use Rattle.query.specs.Path.{readPath, pathCheck}
+use Rattle.query.specs.Path.{readPath}
+use Rattle.query.specs.Helpers.{pathCheck}
 use Rattle.query.proofs.Checking.{Checking, checking-start, checking-name, checking-number, checking-end, checking-bad}
 use borrow.Author.Needs.{needs}
 use Rattle.query.proofs.path.check_path.Statement.{statement}

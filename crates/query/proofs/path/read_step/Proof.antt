@@ -2,7 +2,8 @@
 use Prim.Native.Nat.{_+_}
 use mathlib.Core.Path.{sym, _∙_}
 use borrow.Author.Tests.{ne-eqb, lt-ltb, le-ltb}
-use Rattle.query.specs.Path.{told, stepAt}
+use Rattle.query.specs.Path.{stepAt}
+use Rattle.query.specs.Helpers.{told}
 use Rattle.query.proofs.PathLaws.{told-name}
 use borrow.Author.Needs.{needs}
 use Rattle.query.proofs.path.read_step.Statement.{statement}
