@@ -48,7 +48,7 @@ same-name-requires : tie.Need-same-name-requires
 same-name-requires c κs = let f = small c in (omega arith, omega arith, omega arith, omega arith)
 
 add-value-at : tie.Need-add-value-at
-add-value-at c = search needs
+add-value-at c = omega arith
 
 value-at-requires : tie.Need-value-at-requires
 value-at-requires c κs = search needs

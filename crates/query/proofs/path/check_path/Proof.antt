@@ -38,7 +38,7 @@ unfolding pathCheck readPath
 returns-2 c = let a = c .before .before .before .args in rw (le-ltb 1024 (length (a .path .now)) (omega arith), List·getD-eq-default (a .path .now) 0 {n = 0} (omega arith))
 
 shared-slice-read-if3 : tie.Need-shared-slice-read-if3 Inv-loop μ-loop
-shared-slice-read-if3 c = search needs
+shared-slice-read-if3 c = omega arith
 
 returns-3 : tie.Need-returns-3 Inv-loop μ-loop
 unfolding pathCheck readPath
