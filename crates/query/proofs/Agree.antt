@@ -1,17 +1,17 @@
 -- The answer depends on the words only through the bits it may read: places below n, levels up to the number of steps. Bits that agree there give the
 -- same items, steps and walks, one after another; and promised words agree with the rules.
 use Prim.Native.Nat.{ℕ, zero, suc, _+_, _-_, _≤_, _<_}
-use mathlib.Core.Path.{_≡_, refl, sym, ap, ap₂, _∙_}
+use mathlib.Core.Path.{_≡_, refl, ap, ap₂}
 use mathlib.Core.Bool.{Bool, true, false, not, _&&_}
 use mathlib.Core.List.{List, [], _∷_}
 use native.Mathlib.Omega.{arith}
 use lib.Dec.{eqb, ltb, leb}
 use lib.ListN.{length}
-use borrow.Author.Tests.{ltb-true, ltb-false}
+use borrow.Author.Tests.{ltb-true}
 use Rattle.rules.specs.Word.{pick}
 use Rattle.rules.specs.Layout.{quotes, colons, commas, widthOf, sizeOf, Promise}
 use Rattle.rules.proofs.LayoutLaws.{promised-bit}
-use Rattle.query.specs.Places.{byteIn, between, firstIn, firstAt}
+use Rattle.query.specs.Places.{byteIn, firstIn, firstAt}
 use Rattle.query.specs.Grammar.{Selector, name, number, Path}
 use Rattle.query.specs.Path.{Reading, good, bad, readPath, large}
 use Rattle.query.specs.Items.{Bits, lent, ruled, solid, trimStart, trimEnd, valueAt, same, quoted, keyed, itemAt, orElse, itemsIn, items, itemNo}
@@ -19,13 +19,13 @@ use Rattle.query.specs.Walk.{onFound, ofItem, framed, filled, nameStep, 
 use Rattle.query.specs.Answers.{afterReading, answerOf}
 use Rattle.query.specs.declared.items.Item.{Item}
 use Rattle.query.specs.declared.items.Item.the-variants as Items
-use Rattle.query.specs.declared.types.Cause.the-variants.{NoColon, BadName, EmptyValue}
+use Rattle.query.specs.declared.types.Cause.the-variants.{EmptyValue}
 use Rattle.query.specs.declared.types.Refusal.the-variants.{EmptyRecord, LongRecord, BadLevels, BadBuffer, TooLarge, TooDeep, NotObject, NotArray, NoName, NoNumber, Broken}
 use Rattle.query.specs.declared.types.Answer.{Answer}
 use Rattle.query.specs.declared.types.Answer.the-variants.{Found, Refused}
 use Rattle.query.proofs.PlaceLaws.{first-ge, first-le, last-bounds}
 use Rattle.query.proofs.ItemLaws.{framed-long}
-use Rattle.query.proofs.Inside.{In, InItem, value-in, step-in}
+use Rattle.query.proofs.Inside.{Within, value-in, of-in, step-in}
 use Rattle.query.proofs.Reading.{read-is-path}
 
 -- the same bits at places below n, and at levels up to l
@@ -112,7 +112,7 @@ module _ (byte : ℕ → ℕ) (n l : ℕ) (b c : Bits) (g : Agree n l b c) where
       when (framed byte 91 93 a e) (Refused NotArray) (λ q. let f = framed-long byte 91 93 a e q in
       when (filled byte a e) (Refused NoNumber) (λ _. ap (ofItem NoNumber) (itemNo-agree byte (b .comma k) (c .comma k) n (λ i z. g .commas k i o p z) m (a + 1) (e - 1) (omega arith) (omega arith))))
 
-  on-agree : (r : Answer) (x y : ℕ → ℕ → Answer) → In n r → ((s e : ℕ) → e ≤ n → x s e ≡ y s e) → onFound r x Refused ≡ onFound r y Refused
+  on-agree : (r : Answer) (x y : ℕ → ℕ → Answer) → Within n r → ((s e : ℕ) → e ≤ n → x s e ≡ y s e) → onFound r x Refused ≡ onFound r y Refused
   on-agree (Found s e) x y i f = f s e (i .1)
   on-agree (Refused why) x y i f = refl
 
@@ -124,18 +124,13 @@ module _ (byte : ℕ → ℕ) (n l : ℕ) (b c : Bits) (g : Agree n l b c) where
       (on-agree (stepBy byte c k s a e) (λ s′ e′. walkFrom byte b (k + 1) ss s′ e′) (λ s′ e′. walkFrom byte c (k + 1) ss s′ e′) (step-in byte c n k s a e h)
       (λ s′ e′ h′. walkFrom-agree (k + 1) ss s′ e′ (omega arith) (omega arith) h′))
 
-of-in : (n : ℕ) (it : Item) → InItem n it → In n (ofItem (Broken EmptyValue) it)
-of-in n (Items.Found s e) i = i
-of-in n Items.Other i = tt
-of-in n (Items.Broken why) i = tt
-
 -- a walk of so many steps reads no other places, and no deeper levels
 pub walk-agree : (text : List ℕ) (ss : List Selector) (b c : Bits) → Agree (length text) (length ss) b c → walk text b ss ≡ walk text c ss
 unfolding walk
 walk-agree text ss b c g =
     let n = length text in
     on-agree (byteIn text) n (length ss) b c g (ofItem (Broken EmptyValue) (valueAt (byteIn text) 0 n)) (λ a e. walkFrom (byteIn text) b 1 ss a e) (λ a e. walkFrom (byteIn text) c 1 ss a e)
-    (of-in n (valueAt (byteIn text) 0 n) (value-in (byteIn text) 0 n n (omega arith) (omega arith)))
+    (of-in n (Broken EmptyValue) (valueAt (byteIn text) 0 n) (value-in (byteIn text) 0 n n (omega arith) (omega arith)))
     (λ a e h. walkFrom-agree (byteIn text) n (length ss) b c g 1 ss a e (omega arith) (omega arith) h)
 
 -- ---- the answer

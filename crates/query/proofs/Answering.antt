@@ -1,9 +1,8 @@
 -- A query's checks of its path, as the code tells them, and then its walk. By cases on the tests.
-use Prim.Native.Nat.{ℕ, _≤_}
+use Prim.Native.Nat.{ℕ}
 use mathlib.Core.Path.{_≡_, refl, sym, ap, _∙_}
 use mathlib.Core.Bool.{Bool, true, false}
 use mathlib.Core.List.{List, _∷_, []}
-use native.Mathlib.Omega.{arith}
 use lib.Dec.{ltb}
 use lib.ListN.{length}
 use types.Run.{OneOf, miss}
@@ -11,20 +10,20 @@ use denote.Enum.Declared.{tagOf}
 use Rattle.rules.specs.Word.{pick}
 use Rattle.rules.specs.Layout.{widthOf}
 use Rattle.query.specs.Grammar.{Selector}
-use Rattle.query.specs.Path.{Reading, good, bad, readPath, large, verdictOf, checked, pathCheck}
+use Rattle.query.specs.Path.{Reading, good, bad, readPath, large}
+use Rattle.query.specs.Helpers.{checked, pathCheck}
 use Rattle.query.specs.Items.{lent, trimStart, trimEnd, valueAt}
 use Rattle.query.specs.Walk.{ofItem, walk}
 use Rattle.query.specs.Answers.{afterReading}
 use Rattle.query.specs.declared.path.Checked.{Checked}
 use Rattle.query.specs.declared.path.Checked.the-variants as Checks
 use Rattle.query.specs.declared.items.Item.{Item}
-use Rattle.query.specs.declared.items.Item.the-variants as Items
 use Rattle.query.specs.declared.types.Cause.the-variants.{EmptyValue}
 use Rattle.query.specs.declared.types.Refusal.the-variants.{BadPath, TooLarge, TooDeep, Broken}
 use Rattle.query.specs.declared.types.Answer.{Answer}
 use Rattle.query.specs.declared.types.Answer.the-variants.{Refused}
 use Rattle.query.proofs.PlaceLaws.{pick-ind}
-use Rattle.query.proofs.Checking.{Fits, fits-fine}
+use Rattle.query.proofs.Checking.{fits-fine}
 use Rattle.query.proofs.items.Item.{the-type}
 
 -- a value that is not found is empty

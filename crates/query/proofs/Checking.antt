@@ -2,7 +2,7 @@
 use Prim.Native.Nat.{ℕ, zero, suc, _+_, _-_, _≤_, _<_, min}
 use mathlib.Core.Path.{_≡_, refl, sym, ap, _∙_}
 use mathlib.Core.Bool.{Bool, true, false, _||_}
-use mathlib.Core.List.{List, [], _∷_}
+use mathlib.Core.List.{List}
 use native.Mathlib.Omega.{arith}
 use native.Mathlib.Nat.{add-zero, zero-add}
 use lib.Dec.{ltb, eqb}
@@ -11,8 +11,8 @@ use borrow.Author.Tests.{le-ltb, lt-ltb, ltb-true, ltb-false, eq-eqb}
 use Rattle.rules.specs.Word.{pick}
 use Rattle.query.specs.Places.{byteIn, between}
 use Rattle.query.specs.Grammar.{Selector, name, number}
-use Rattle.query.specs.Path.{stepAt, told, Reading, good, bad, before, readFrom, readPath, large, verdictOf, checked, pathCheck}
-use Rattle.query.specs.declared.path.Step.{Step}
+use Rattle.query.specs.Path.{stepAt, Reading, good, bad, before, readFrom, readPath, large}
+use Rattle.query.specs.Helpers.{told, verdictOf, checked, pathCheck}
 use Rattle.query.specs.declared.path.Step.the-variants.{Name, Number, End, Refused}
 use Rattle.query.specs.declared.path.Checked.{Checked}
 use Rattle.query.specs.declared.path.Checked.the-variants.{Fine, Bad, TooLarge, TooDeep}
@@ -69,16 +69,16 @@ large-told v m e = go (ltb 16777215 m) refl
     go true h = lt-ltb 16777215 v (omega (arith, ltb-true 16777215 m h)) ∙ sym h
     go false h = le-ltb 16777215 v (omega (arith, ltb-false 16777215 m h)) ∙ sym h
 
+-- the rest is read behind the step
+pub read-name : (path : List ℕ) (at : ℕ) {b f x : ℕ} (c : ℕ) → stepAt path at ≡ Name b f x → readFrom (suc c) path at ≡ before (name (between (byteIn path) b f)) (readFrom c path x)
+unfolding readFrom
+read-name path at c e = rw e
+
+pub read-number : (path : List ℕ) (at : ℕ) {v x : ℕ} (c : ℕ) → stepAt path at ≡ Number v x → readFrom (suc c) path at ≡ before (number v) (readFrom c path x)
+unfolding readFrom
+read-number path at c e = rw e
+
 module _ {path : List ℕ} {levels at : ℕ} {big : Bool} {steps : ℕ} (i : Checking path levels at big steps) where
-  -- the rest is read behind the step
-  read-name : {b f x : ℕ} (c : ℕ) → stepAt path at ≡ Name b f x → readFrom (suc c) path at ≡ before (name (between (byteIn path) b f)) (readFrom c path x)
-  unfolding readFrom
-  read-name c e = rw e
-
-  read-number : {v x : ℕ} (c : ℕ) → stepAt path at ≡ Number v x → readFrom (suc c) path at ≡ before (number v) (readFrom c path x)
-  unfolding readFrom
-  read-number c e = rw e
-
   pub checking-name : {b f x : ℕ} → told (stepAt path at) ≡ Name b f x → (at < x) × Checking path levels x big (steps + 1)
   checking-name {b} {f} {x} e = go (i .fuel) (i .enough) (i .same)
     where
@@ -93,7 +93,7 @@ module _ {path : List ℕ} {levels at : ℕ} {big : Bool} {steps : ℕ} (i : Che
               count = omega (arith, i .count);
               fuel = c;
               enough = omega arith;
-              same = q ∙ ap (rest big steps levels) (read-name c (n .0)) ∙ rest-name big steps levels (between (byteIn path) b f) (readFrom c path x);
+              same = q ∙ ap (rest big steps levels) (read-name path at c (n .0)) ∙ rest-name big steps levels (between (byteIn path) b f) (readFrom c path x);
             },
           )
 
@@ -112,7 +112,7 @@ module _ {path : List ℕ} {levels at : ℕ} {big : Bool} {steps : ℕ} (i : Che
               fuel = c;
               enough = omega arith;
               same =
-                  q ∙ ap (rest big steps levels) (read-number c (n .1)) ∙ rest-number big steps levels (n .0) (readFrom c path x)
+                  q ∙ ap (rest big steps levels) (read-number path at c (n .1)) ∙ rest-number big steps levels (n .0) (readFrom c path x)
                   ∙ ap (λ (b : Bool). rest b (steps + 1) levels (readFrom c path x)) (ap (λ (b : Bool). big || b) (large-told (n .0) m (n .2) ∙ h) ∙ or-pick big t);
             },
           )

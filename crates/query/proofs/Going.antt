@@ -1,5 +1,5 @@
 -- Where the walk along a path stands: the walk from here is the walk from the start, and the selectors that are left are those read from here on.
-use Prim.Native.Nat.{ℕ, zero, suc, _+_, _≤_, _<_, min}
+use Prim.Native.Nat.{ℕ, zero, suc, _+_, _≤_, min}
 use mathlib.Core.Path.{_≡_, refl, sym, ap, _∙_, subst}
 use mathlib.Core.Bool.{Bool, true, false, _||_}
 use mathlib.Core.List.{List, [], _∷_}
@@ -10,18 +10,19 @@ use borrow.Author.Tests.{ltb-false}
 use Rattle.rules.specs.Word.{pick}
 use Rattle.query.specs.Places.{byteIn, between}
 use Rattle.query.specs.Grammar.{Selector, name, number}
-use Rattle.query.specs.Path.{stepAt, told, Reading, good, bad, before, readFrom, readPath, large, pathCheck}
+use Rattle.query.specs.Path.{stepAt, Reading, good, bad, before, readFrom, readPath, large}
+use Rattle.query.specs.Helpers.{told, pathCheck}
 use Rattle.query.specs.Items.{lent}
 use Rattle.query.specs.Walk.{nameStep, numberStep, stepBy, walkFrom}
 use Rattle.query.specs.declared.bits.Shape.{Shape}
 use Rattle.query.specs.declared.path.Step.{Step}
-use Rattle.query.specs.declared.path.Step.the-variants as Steps
+use Rattle.query.specs.declared.path.Step.the-variants as Kind
 use Rattle.query.specs.declared.path.Checked.the-variants.{Fine}
 use Rattle.query.specs.declared.types.Refusal.{Refusal}
 use Rattle.query.specs.declared.types.Answer.the-variants.{Found, Refused}
 use Rattle.query.proofs.PathLaws.{name-told, number-told}
-use Rattle.query.proofs.Checking.{Fits, fits-fine}
-use Rattle.query.proofs.Inside.{In, step-in}
+use Rattle.query.proofs.Checking.{read-name, read-number, fits-fine}
+use Rattle.query.proofs.Inside.{Within, step-in}
 
 pub record Going (text words : List ℕ) (s : Shape) (path : List ℕ) (from to a e at k : ℕ) : Type 0 where
   pub fuel : ℕ
@@ -70,16 +71,16 @@ next : {path : List ℕ} {x : ℕ} {one : Selector} {left : List Selector} (c : 
 next c (good ss) q e = record { fuel = c; rest = ss; is = cc; reads = q }
 next c (bad p) q e = absurd (let z : _≡_ {A = ℕ} 0 1 = cc in omega arith)
 
-next-name : {path : List ℕ} (at : ℕ) {b f x : ℕ} {left : List Selector} (c : ℕ) → readFrom c path at ≡ good left → stepAt path at ≡ Steps.Name b f x
+next-name : {path : List ℕ} (at : ℕ) {b f x : ℕ} {left : List Selector} (c : ℕ) → readFrom c path at ≡ good left → stepAt path at ≡ Kind.Name b f x
     → Next path x (name (between (byteIn path) b f)) left
 unfolding readFrom
 next-name at zero r e = absurd (let z : _≡_ {A = ℕ} 0 1 = cc in omega arith)
-next-name {path} at {b} {f} {x} (suc c) r e = next c (readFrom c path x) refl (rw e at r)
+next-name {path} at {b} {f} {x} (suc c) r e = next c (readFrom c path x) refl (sym (read-name path at c e) ∙ r)
 
-next-number : {path : List ℕ} (at : ℕ) {v x : ℕ} {left : List Selector} (c : ℕ) → readFrom c path at ≡ good left → stepAt path at ≡ Steps.Number v x → Next path x (number v) left
+next-number : {path : List ℕ} (at : ℕ) {v x : ℕ} {left : List Selector} (c : ℕ) → readFrom c path at ≡ good left → stepAt path at ≡ Kind.Number v x → Next path x (number v) left
 unfolding readFrom
 next-number at zero r e = absurd (let z : _≡_ {A = ℕ} 0 1 = cc in omega arith)
-next-number {path} at {v} {x} (suc c) r e = next c (readFrom c path x) refl (rw e at r)
+next-number {path} at {v} {x} (suc c) r e = next c (readFrom c path x) refl (sym (read-number path at c e) ∙ r)
 
 large-first : (v : ℕ) (ss : List Selector) → large (number v ∷ ss) ≡ false → v ≤ 16777215
 unfolding large
@@ -109,7 +110,7 @@ module _ {text words : List ℕ} {s : Shape} {path : List ℕ} {from to a e at k
     found : {b f : ℕ} → stepBy (byteIn text) (lent words (s .levels) (s .width)) k one a e ≡ Found b f → Going text words s path from to b f x (k + 1)
     unfolding walkFrom
     found {b} {f} q =
-        let i = subst (In (length text)) q (step-in (byteIn text) (lent words (s .levels) (s .width)) (length text) k one a e (g .inside)) in
+        let i = subst (Within (length text)) q (step-in (byteIn text) (lent words (s .levels) (s .width)) (length text) k one a e (g .inside)) in
         record {
           fuel = n .fuel;
           left = n .rest;
@@ -128,7 +129,7 @@ module _ {text words : List ℕ} {s : Shape} {path : List ℕ} {from to a e at k
     stopped q ss r = g .same ss r ∙ rw (n .is, q)
 
   -- by a name
-  module _ {b f x : ℕ} (t : told (stepAt path at) ≡ Steps.Name b f x) where
+  module _ {b f x : ℕ} (t : told (stepAt path at) ≡ Kind.Name b f x) where
     named : Next path x (name (between (byteIn path) b f)) (g .left)
     named = next-name at (g .fuel) (g .reads) (name-told path at t .0)
 
@@ -143,7 +144,7 @@ module _ {text words : List ℕ} {s : Shape} {path : List ℕ} {from to a e at k
     stop-name q = stopped named q
 
   -- by a number, which is small, so that the code holds it
-  module _ {m x : ℕ} (t : told (stepAt path at) ≡ Steps.Number m x) where
+  module _ {m x : ℕ} (t : told (stepAt path at) ≡ Kind.Number m x) where
     numbered : Next path x (number m) (g .left)
     numbered =
         let h = number-told path at t in
@@ -163,14 +164,14 @@ module _ {text words : List ℕ} {s : Shape} {path : List ℕ} {from to a e at k
     stop-number q = stopped numbered q
 
   -- no step is left
-  pub stop-end : ((b f x : ℕ) → told (stepAt path at) ≡ Steps.Name b f x → ⊥) → ((m x : ℕ) → told (stepAt path at) ≡ Steps.Number m x → ⊥)
+  pub stop-end : ((b f x : ℕ) → told (stepAt path at) ≡ Kind.Name b f x → ⊥) → ((m x : ℕ) → told (stepAt path at) ≡ Kind.Number m x → ⊥)
       → (ss : List Selector) → readPath path ≡ good ss → walkFrom (byteIn text) (lent words (s .levels) (s .width)) 1 ss from to ≡ Found a e
   unfolding readFrom walkFrom told
   stop-end no-name no-number ss r = g .same ss r ∙ ap (λ (l : List Selector). walkFrom (byteIn text) (lent words (s .levels) (s .width)) k l a e) (none (g .fuel) (g .reads) (stepAt path at) refl)
     where
       none : (c : ℕ) → readFrom c path at ≡ good (g .left) → (st : Step) → stepAt path at ≡ st → g .left ≡ []
       none zero r st q = absurd (let z : _≡_ {A = ℕ} 0 1 = cc in omega arith)
-      none (suc c) r (Steps.Name b f x) q = absurd (no-name b f x (ap told q))
-      none (suc c) r (Steps.Number v x) q = absurd (no-number (min v 16777216) x (ap told q))
-      none (suc c) r Steps.End q = let e : _≡_ {A = Reading} (good []) (good (g .left)) = rw q at r in cc
-      none (suc c) r (Steps.Refused p) q = let e : _≡_ {A = Reading} (bad p) (good (g .left)) = rw q at r in absurd (let z : _≡_ {A = ℕ} 0 1 = cc in omega arith)
+      none (suc c) r (Kind.Name b f x) q = absurd (no-name b f x (ap told q))
+      none (suc c) r (Kind.Number v x) q = absurd (no-number (min v 16777216) x (ap told q))
+      none (suc c) r Kind.End q = let e : _≡_ {A = Reading} (good []) (good (g .left)) = rw q at r in cc
+      none (suc c) r (Kind.Refused p) q = let e : _≡_ {A = Reading} (bad p) (good (g .left)) = rw q at r in absurd (let z : _≡_ {A = ℕ} 0 1 = cc in omega arith)

@@ -1,7 +1,7 @@
 -- What the byte machine reads is a path of the grammar, and where it stops is the place of 20. By a move back for each move.
 use Prim.Native.Nat.{ℕ, zero, suc, _+_, _-_, _*_, _≤_, _<_}
-use mathlib.Core.Path.{_≡_, refl, sym, ap, _∙_}
-use mathlib.Core.Bool.{Bool, true, false, false≢true}
+use mathlib.Core.Path.{_≡_, refl, sym, _∙_}
+use mathlib.Core.Bool.{Bool, true, false}
 use mathlib.Core.List.{List, [], _∷_, _++_, append-assoc}
 use native.Mathlib.Nat.{add-zero, le-of-suc-le-suc, not-suc-le-zero}
 use native.Mathlib.Omega.{arith}
@@ -56,8 +56,8 @@ data View : Mode → ℕ → Move → Type 0 where
   digit-next : {v b : ℕ} → In 48 57 b → View (counting v) b (to (counting (v * 10 + (b - 48))))
   count-close : {v : ℕ} → View (counting v) 93 (emit (number v) after)
 
-lead : (b : ℕ) → isDigit b ≡ true → eqb b 48 ≡ false → In 49 57 b
-lead b e f = let h = digit-of b e in let k = eqb-false b 48 f in record { low = omega (arith, h .low); high = h .high }
+leading : (b : ℕ) → isDigit b ≡ true → eqb b 48 ≡ false → In 49 57 b
+leading b e f = let h = digit-of b e in let k = eqb-false b 48 f in record { low = omega (arith, h .low); high = h .high }
 
 -- what follows where a test holds, and where it does not
 split : {A : Type 0} (c : Bool) → (c ≡ true → A) → (c ≡ false → A) → A
@@ -69,7 +69,7 @@ unfolding isTail isHead isDigit
 view start b = split (eqb b 36) (λ e. rw (eqb-true b 36 e) root) (λ e. rw e none)
 view after b = split (eqb b 46) (λ e. rw (eqb-true b 46 e) dot) (λ e. split (eqb b 91) (λ f. rw (eqb-true b 91 f) bracket) (λ f. rw (e, f) none))
 view dotted b = split (isHead b) (λ e. rw e (head (letter-of b e))) (λ e. rw e none)
-view opened b = split (eqb b 48) (λ e. rw (eqb-true b 48 e) zero-first) (λ e. split (isDigit b) (λ f. rw (e, f) (digit-first (lead b f e))) (λ f. rw (e, f) none))
+view opened b = split (eqb b 48) (λ e. rw (eqb-true b 48 e) zero-first) (λ e. split (isDigit b) (λ f. rw (e, f) (digit-first (leading b f e))) (λ f. rw (e, f) none))
 view nought b = split (eqb b 93) (λ e. rw (eqb-true b 93 e) zero-close) (λ e. rw e none)
 view (naming n) b =
     split (isTail b) (λ e. rw e (tail (tail-of b e)))

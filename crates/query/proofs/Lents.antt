@@ -1,15 +1,14 @@
 -- What can be read of lent words: a word's address lies among them, and every bitmap of a level can be read up to the record's end.
-use Prim.Native.Nat.{ℕ, _+_, _*_, _/_, _≤_, _<_}
-use mathlib.Core.Path.{_≡_, ap, ap₂, subst}
+use Prim.Native.Nat.{ℕ, _+_, _*_, _≤_, _<_}
+use mathlib.Core.Path.{_≡_, subst}
 use mathlib.Core.List.{List}
 use native.Mathlib.Omega.{arith}
 use native.Mathlib.Nat.{mul-le-mul-right}
 use lib.ListN.{length}
 use Rattle.rules.specs.Layout.{widthOf, sizeOf, address, Has}
 use Rattle.rules.proofs.LayoutLaws.{address-lt}
-use Rattle.query.specs.Lent.{mapped, Readable, Lent}
+use Rattle.query.specs.Helpers.{mapped, Readable, Lent}
 use Rattle.query.specs.declared.bits.Map.{Map}
-use Rattle.query.specs.declared.bits.Map.the-variants.{Quotes, Colons, Commas}
 use Rattle.query.specs.declared.bits.Shape.{Shape}
 
 -- a word of a bitmap lies among the lent words, which are few

@@ -14,3 +14,7 @@ pub mod Machine
 pub mod Grammars
 pub mod Reading
 pub mod Agree
+pub mod Stops
+pub mod Numbers
+pub mod ItemCount
+pub mod Outcomes

@@ -1,18 +1,18 @@
 -- A byte machine for paths, which the proofs read with: it reads exactly the paths of the grammar, and stops at the place of 20. Every mode can be
 -- completed to a path, and every move back keeps the grammar.
-use Prim.Native.Nat.{ℕ, zero, suc, _+_, _-_, _*_, _≤_, _<_}
-use mathlib.Core.Path.{_≡_, refl, sym, ap, _∙_}
-use mathlib.Core.Bool.{Bool, true, false, _||_, false≢true}
+use Prim.Native.Nat.{ℕ, zero, suc, _+_, _-_, _*_}
+use mathlib.Core.Path.{_≡_, refl, ap, _∙_}
+use mathlib.Core.Bool.{Bool, true, false, _||_}
 use mathlib.Core.List.{List, [], _∷_, _++_, append-nil, append-assoc}
-use native.Mathlib.Nat.{add-zero, add-suc, suc-add, le-of-suc-le-suc, not-suc-le-zero}
+use native.Mathlib.Nat.{add-zero, add-suc, suc-add}
 use native.Mathlib.Omega.{arith}
 use lib.Dec.{eqb}
-use lib.ListN.{length, take}
-use borrow.Author.Tests.{eqb-true, eqb-false, eq-eqb, ne-eqb}
+use lib.ListN.{length}
+use borrow.Author.Tests.{eqb-true, ne-eqb}
 use Rattle.rules.specs.Word.{pick}
-use Rattle.query.specs.Grammar.{Selector, name, number, In, Letter, Rest, Name, More, Numeral, Steps, Path, RefusedAt}
+use Rattle.query.specs.Grammar.{Selector, name, number, In, Letter, Rest, Name, More, Numeral, Steps, Path}
 use Rattle.query.specs.Path.{inRange, isDigit, isHead, isTail, Reading, good, bad, before}
-use Rattle.query.proofs.PathLaws.{range-in, range-below, range-above, range-of}
+use Rattle.query.proofs.PathLaws.{range-in, range-above, range-of}
 
 -- what has been read: nothing; a whole step; `.`; `[`; `[0`; a name so far; `[` and a number so far
 pub data Mode : Type 0 where

@@ -1,5 +1,5 @@
 -- The byte classes, the value of digits, and where a step ends. By the tests of the definitions, one after another.
-use Prim.Native.Nat.{ℕ, zero, suc, _+_, _-_, _*_, _≤_, _<_, min}
+use Prim.Native.Nat.{ℕ, suc, _+_, _-_, _*_, _≤_, _<_, min}
 use mathlib.Core.Path.{_≡_, refl, sym, ap, _∙_, subst}
 use mathlib.Core.Bool.{Bool, true, false, not, _&&_, true≢false, false≢true}
 use mathlib.Core.List.{List}
@@ -9,7 +9,8 @@ use lib.Dec.{leb, ltb, eqb}
 use lib.ListN.{length, getD, List·getD-eq-default}
 use borrow.Author.Tests.{le-leb, lt-leb, leb-true, ne-eqb}
 use Rattle.rules.specs.Word.{pick}
-use Rattle.query.specs.Path.{inRange, isDigit, isHead, isTail, runEnd, decimal, numberEnd, closed, nameAt, numberAt, stepAt, onStep, told}
+use Rattle.query.specs.Path.{inRange, isDigit, isHead, isTail, runEnd, decimal, numberEnd, closed, nameAt, numberAt, stepAt, onStep}
+use Rattle.query.specs.Helpers.{told}
 use Rattle.query.specs.declared.path.Step.{Step}
 use Rattle.query.specs.declared.path.Step.the-variants.{Name, Number, End, Refused}
 use Rattle.query.proofs.PlaceLaws.{pick-ind, first-next, first-ge, first-le}

@@ -5,7 +5,7 @@ use mathlib.Core.Path.{_≡_, refl, sym, ap, ap₂, _∙_, subst}
 use mathlib.Core.Bool.{Bool, true, false, not, true≢false}
 use mathlib.Core.List.{List, [], _∷_, _++_, append-nil, append-assoc}
 use mathlib.Core.Logic.{⊎-elim}
-use native.Mathlib.Nat.{eq-or-lt-of-le, lt-of-not-le}
+use native.Mathlib.Nat.{eq-or-lt-of-le}
 use native.Mathlib.Numerals.{add-one}
 use native.Mathlib.Omega.{arith}
 use lib.Dec.{eqb, ltb}
@@ -13,11 +13,11 @@ use lib.ListN.{length, getD, take, drop, take-append-drop, List·getD-eq-default
 use lib.Seq.{drop-cons, drop-length, take-take}
 use borrow.Author.Tests.{ltb-true, ltb-false, eqb-true, not-true, not-false, ne-eqb}
 use Rattle.rules.specs.Word.{pick}
-use Rattle.query.specs.Places.{byteIn, between, firstAt}
+use Rattle.query.specs.Places.{byteIn, between}
 use Rattle.query.specs.Grammar.{Selector, name, number, Path, Begins, RefusedAt}
 use Rattle.query.specs.Path.{isDigit, isHead, isTail, runEnd, decimal, numberEnd, closed, nameAt, numberAt, stepAt, onStep, Reading, good, bad, before, readFrom, readPath}
 use Rattle.query.specs.declared.path.Step.{Step}
-use Rattle.query.specs.declared.path.Step.the-variants as Steps
+use Rattle.query.specs.declared.path.Step.the-variants as Kind
 use Rattle.query.proofs.PlaceLaws.{pick-ind, first-ind, first-le, first-hit}
 use Rattle.query.proofs.Names.{between-none, between-some}
 use Rattle.query.proofs.PathLaws.{Ends, step-ends, inside, decimal-next}
@@ -114,7 +114,7 @@ unfolding isHead isTail isDigit byteIn
 name-follows path at a h g =
     let e = runEnd isTail path (a + 1) in
     let z : a + 1 ≡ suc a = add-one a in
-    pick-ind (Follows path at) (isHead (getD path a 0)) (Steps.Name a e e) (Steps.Refused a)
+    pick-ind (Follows path at) (isHead (getD path a 0)) (Kind.Name a e e) (Kind.Refused a)
     (λ c. let i : a < length path = inside isHead refl path a c in
     let k : e ≤ length path = first-le (λ k. not (isTail (getD path k 0))) (a + 1) (length path) (omega arith) in
     let s = stay-name path (a + 1) (omega arith) in
@@ -126,7 +126,7 @@ name-follows path at a h g =
 closed-follows : (m : Mode) (path : List ℕ) (at e v : ℕ) → e ≤ length path → ended m e ≡ bad e → move m (getD path e 0) ≡ pick (eqb (getD path e 0) 93) (emit (number v) after) stop
     → from path after at ≡ from path m e → Follows path at (closed path e v)
 closed-follows m path at e v h n q g =
-    pick-ind (Follows path at) (eqb (getD path e 0) 93) (Steps.Number v (e + 1)) (Steps.Refused e)
+    pick-ind (Follows path at) (eqb (getD path e 0) 93) (Kind.Number v (e + 1)) (Kind.Refused e)
     (λ c. g ∙ from-emit path m after (number v) e (inside (λ b. eqb b 93) refl path e c) (q ∙ rw c) ∙ ap (λ (j : ℕ). before (number v) (from path after j)) (sym (add-one e)))
     (λ c. g ∙ from-halt path m e h n (q ∙ rw c))
 
@@ -140,7 +140,7 @@ number-follows path at a h g =
     let z : a + 1 ≡ suc a = add-one a in
     let n : a - a ≡ 0 = omega arith in
     let d : decimal path a (a + 1 - a) ≡ getD path a 0 - 48 = omega (arith, decimal-next path a a (omega arith), ap (decimal path a) n) in
-    pick-ind (Follows path at) (isDigit (getD path a 0)) (closed path (numberEnd path a) (decimal path a (numberEnd path a - a))) (Steps.Refused a)
+    pick-ind (Follows path at) (isDigit (getD path a 0)) (closed path (numberEnd path a) (decimal path a (numberEnd path a - a))) (Kind.Refused a)
     (λ c. let i : a < length path = inside isDigit refl path a c in
     let r = runEnd isDigit path (a + 1) in
     let k : r ≤ length path = first-le (λ k. not (isDigit (getD path k 0))) (a + 1) (length path) (omega arith) in
@@ -156,13 +156,13 @@ unfolding stepAt
 step-follows path at h =
     let b = getD path at 0 in
     let z : at + 1 ≡ suc at = add-one at in
-    let y3 : Step = pick (eqb b 91) (numberAt path (at + 1)) (Steps.Refused at) in
+    let y3 : Step = pick (eqb b 91) (numberAt path (at + 1)) (Kind.Refused at) in
     let y2 : Step = pick (eqb b 46) (nameAt path (at + 1)) y3 in
-    pick-ind (Follows path at) (ltb at (length path)) y2 Steps.End
+    pick-ind (Follows path at) (ltb at (length path)) y2 Kind.End
     (λ l. let i : at < length path = ltb-true at (length path) l in
     pick-ind (Follows path at) (eqb b 46) (nameAt path (at + 1)) y3
     (λ c. name-follows path at (at + 1) (omega arith) (from-go path after dotted at i (rw c) ∙ ap (from path dotted) (sym z)))
-    (λ c. pick-ind (Follows path at) (eqb b 91) (numberAt path (at + 1)) (Steps.Refused at)
+    (λ c. pick-ind (Follows path at) (eqb b 91) (numberAt path (at + 1)) (Kind.Refused at)
     (λ d. number-follows path at (at + 1) (omega arith) (from-go path after opened at i (rw (c, d)) ∙ ap (from path opened) (sym z)))
     (λ d. from-step path after at i ∙ rw (c, d))))
     (λ l. from-end path after at (omega (arith, ltb-false at (length path) l)))
@@ -177,10 +177,10 @@ readFrom-is (suc c) path at h l = go (λ x i j. readFrom-is c path x i j) (stepA
     go : ((x : ℕ) → x ≤ length path → length path - x < c → readFrom c path x ≡ from path after x)
         → (st : Step) → Ends path at st → Follows path at st
         → onStep st (λ b f x. before (name (between (byteIn path) b f)) (readFrom c path x)) (λ v x. before (number v) (readFrom c path x)) (good []) bad ≡ from path after at
-    go ih (Steps.Name b f x) n p = ap (before (name (between (byteIn path) b f))) (ih x (n .3) (omega arith)) ∙ sym p
-    go ih (Steps.Number v x) n p = ap (before (number v)) (ih x (n .1) (omega arith)) ∙ sym p
-    go ih Steps.End n p = sym p
-    go ih (Steps.Refused q) n p = sym p
+    go ih (Kind.Name b f x) n p = ap (before (name (between (byteIn path) b f))) (ih x (n .3) (omega arith)) ∙ sym p
+    go ih (Kind.Number v x) n p = ap (before (number v)) (ih x (n .1) (omega arith)) ∙ sym p
+    go ih Kind.End n p = sym p
+    go ih (Kind.Refused q) n p = sym p
 
 readPath-is : (path : List ℕ) → readPath path ≡ read start 0 path
 unfolding readPath

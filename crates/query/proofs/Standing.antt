@@ -1,7 +1,7 @@
 -- What is left of a word of a bitmap, from a place on: its bits are the bitmap's, its lowest set bit is the next place, its count is the rest's.
 -- By the bits of a shifted word.
 use Prim.Native.Nat.{ℕ, zero, suc, _+_, _-_, _*_, _/_, _%_, _^_, _≤_, _<_}
-use mathlib.Core.Path.{_≡_, refl, sym, ap, ap₂, _∙_}
+use mathlib.Core.Path.{_≡_, refl, sym, ap, _∙_}
 use mathlib.Core.Bool.{Bool, true, false, true≢false}
 use mathlib.Core.List.{List}
 use native.Mathlib.Omega.{arith}
@@ -11,7 +11,7 @@ use lib.ListN.{getD}
 use lib.Dec.{eqb}
 use lib.Pow.{shr-shr, shr-le, pow-mono}
 use lib.Count.{ones, trailingZeros, under}
-use Rattle.rules.specs.Word.{digit, count, word, bit}
+use Rattle.rules.specs.Word.{digit, count, bit}
 use Rattle.rules.specs.Layout.{Bitmap, address, bitIn}
 use Rattle.rules.proofs.WordLaws.{word-bits, ones-word}
 use Rattle.rules.proofs.Counting.{count-ext, count-cat}

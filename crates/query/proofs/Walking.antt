@@ -1,9 +1,8 @@
 -- The walk over the items of a level, a word of the commas at a time: where it stands, and each way on. "The items from here are the items from
 -- the start" is kept, with the number of items that may be left.
-use Prim.Native.Nat.{ℕ, zero, suc, _+_, _-_, _*_, _/_, _%_, _^_, _≤_, _<_}
+use Prim.Native.Nat.{ℕ, zero, suc, _+_, _-_, _*_, _/_, _^_, _≤_, _<_}
 use mathlib.Core.Path.{_≡_, refl, _∙_}
 use mathlib.Core.Bool.{Bool, false}
-use mathlib.Core.List.{List}
 use native.Mathlib.Omega.{arith}
 use native.Mathlib.Decide.{decLt}
 use lib.Count.{trailingZeros}
@@ -15,7 +14,7 @@ use Rattle.query.specs.declared.items.Item.the-variants.{Found, Other, B
 use Rattle.query.proofs.PlaceLaws.{first-at, first-all}
 use Rattle.query.proofs.Standing.{Standing, standing-zero, standing-low, standing-shift}
 
--- ---- the laws of `itemsIn`
+-- ---- the laws of `itemsIn`: another item goes on, one that is found or broken stops, and the last
 
 after-keeps : (it r : Item) → (it ≡ Other → ⊥) → orElse it r ≡ it
 after-keeps (Found s t) r h = refl
@@ -28,15 +27,15 @@ after-last Other = refl
 after-last (Broken w) = refl
 
 module _ (item : ℕ → ℕ → Item) (comma : ℕ → Bool) (e : ℕ) where
-  items-next : (f a c : ℕ) → firstAt comma a e ≡ c → c < e → item a c ≡ Other → itemsIn item comma (suc f) a e ≡ itemsIn item comma f (c + 1) e
+  pub items-next : (f a c : ℕ) → firstAt comma a e ≡ c → c < e → item a c ≡ Other → itemsIn item comma (suc f) a e ≡ itemsIn item comma f (c + 1) e
   unfolding itemsIn
   items-next f a c h l o = rw (h, o, lt-ltb c e l)
 
-  items-stop : (f a c : ℕ) → firstAt comma a e ≡ c → (item a c ≡ Other → ⊥) → itemsIn item comma (suc f) a e ≡ item a c
+  pub items-stop : (f a c : ℕ) → firstAt comma a e ≡ c → (item a c ≡ Other → ⊥) → itemsIn item comma (suc f) a e ≡ item a c
   unfolding itemsIn
   items-stop f a c h o = rw h (after-keeps (item a c) _ o)
 
-  items-last : (f a : ℕ) → firstAt comma a e ≡ e → itemsIn item comma (suc f) a e ≡ item a e
+  pub items-last : (f a : ℕ) → firstAt comma a e ≡ e → itemsIn item comma (suc f) a e ≡ item a e
   unfolding itemsIn
   items-last f a h = rw (h, le-ltb e e (omega arith)) (after-last (item a e))
 

@@ -1,6 +1,6 @@
 -- What a query answers, on all inputs, and document 01's number and values of each case.
 use Prim.Native.Nat.{ℕ, _-_}
-use mathlib.Core.Bool.{Bool, not, _&&_}
+use mathlib.Core.Bool.{not, _&&_}
 use mathlib.Core.List.{List}
 use lib.ListN.{length, take, drop}
 use lib.Dec.{ltb, leb, eqb}
@@ -12,7 +12,7 @@ use Rattle.query.specs.Walk.{onFound, walk}
 use Rattle.query.specs.declared.types.Refusal.{Refusal}
 use Rattle.query.specs.declared.types.Refusal.the-variants.{EmptyRecord, LongRecord, BadLevels, BadBuffer, BadPath, TooLarge, TooDeep, NotObject, NotArray, NoName, NoNumber, Broken}
 use Rattle.query.specs.declared.types.Answer.{Answer}
-use Rattle.query.specs.declared.types.Answer.the-variants.{Found, Refused}
+use Rattle.query.specs.declared.types.Answer.the-variants.{Refused}
 
 -- ---- the numbers
 

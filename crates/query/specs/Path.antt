@@ -1,7 +1,7 @@
 -- Reading a path, one step at a time. "Reading a step hands back either the step with what follows it, or a refusal with its place."
 -- (proofs/Reading.antt: it reads exactly the paths of the grammar.)
-use Prim.Native.Nat.{ℕ, zero, suc, _+_, _-_, _*_, min}
-use mathlib.Core.Bool.{Bool, true, false, not, _&&_, _||_}
+use Prim.Native.Nat.{ℕ, zero, suc, _+_, _-_, _*_}
+use mathlib.Core.Bool.{Bool, false, not, _&&_, _||_}
 use mathlib.Core.List.{List, [], _∷_}
 use lib.ListN.{length, getD}
 use lib.Dec.{ltb, leb, eqb}
@@ -10,8 +10,6 @@ use Rattle.query.specs.Places.{byteIn, between, firstAt}
 use Rattle.query.specs.Grammar.{Selector, name, number}
 use Rattle.query.specs.declared.path.Step.{Step}
 use Rattle.query.specs.declared.path.Step.the-variants.{Name, Number, End, Refused}
-use Rattle.query.specs.declared.path.Checked.{Checked}
-use Rattle.query.specs.declared.path.Checked.the-variants.{Fine, Bad, TooLarge, TooDeep}
 
 abbrev pub inRange : ℕ → ℕ → ℕ → Bool
 inRange lo hi b = leb lo b && leb b hi
@@ -75,13 +73,6 @@ onStep (Number v x) named numbered end refused = numbered v x
 onStep End named numbered end refused = end
 onStep (Refused p) named numbered end refused = refused p
 
--- as the code holds it: a number above 16,777,215 as 16,777,216
-unfoldable pub told : Step → Step
-told (Name b f x) = Name b f x
-told (Number v x) = Number (min v 16777216) x
-told End = End
-told (Refused p) = Refused p
-
 -- ---- the whole path
 
 -- its selectors, or the place of 20
@@ -114,16 +105,3 @@ unfoldable pub large : List Selector → Bool
 large [] = false
 large (name n ∷ ss) = large ss
 large (number m ∷ ss) = ltb 16777215 m || large ss
-
--- ---- "path length (21), 20, number size (21), 22", as the code tells them
-
-abbrev pub verdictOf : Bool → ℕ → ℕ → Checked
-verdictOf big count levels = pick big TooLarge (pick (ltb levels count) TooDeep Fine)
-
-abbrev pub checked : ℕ → Reading → Checked
-checked levels (good ss) = verdictOf (large ss) (length ss) levels
-checked levels (bad p) = Bad p
-
-unfoldable pub pathCheck : List ℕ → ℕ → Checked
-unfolding readPath large
-pathCheck path levels = pick (ltb 1024 (length path)) TooLarge (checked levels (readPath path))

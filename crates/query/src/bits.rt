@@ -1,10 +1,10 @@
 // The bits of the lent words, a word at a time. `address_of` alone knows where a word lies.
 ghost use mathlib.Core.Path.{_≡_};
 ghost use Prim.Native.Nat.{_+_, _*_, _<_, _≤_};
-ghost use lib.ListN.{length, getD};
+ghost use lib.ListN.{getD};
 ghost use Rattle.rules.specs.Layout.{address, bitIn};
 ghost use Rattle.query.specs.Places.{firstAt, nthAt};
-ghost use Rattle.query.specs.Lent.{mapped, Readable, Long};
+ghost use Rattle.query.specs.Helpers.{mapped, Readable, Long};
 
 // How many levels the lent words have, and how many words each bitmap.
 pub struct Shape {

@@ -8,7 +8,7 @@ ghost use mathlib.Core.Path.{_≡_};
 ghost use Prim.Native.Nat.{_+_, _≤_, _<_};
 ghost use lib.ListN.{length};
 ghost use Rattle.rules.specs.Layout.{bitIn, quotes, commas};
-ghost use Rattle.query.specs.Lent.{Lent, Readable, Long};
+ghost use Rattle.query.specs.Helpers.{Lent, Readable, Long};
 ghost use Rattle.query.specs.Places.{byteIn, between};
 ghost use Rattle.query.specs.Items.{lent, valueAt, same, quoted, keyed, itemAt, items, itemNo};
 

@@ -2,7 +2,8 @@
 ghost use mathlib.Core.Path.{_≡_};
 ghost use Prim.Native.Nat.{_-_, _≤_, min};
 ghost use lib.ListN.{length};
-ghost use Rattle.query.specs.Path.{isHead, isDigit, isTail, runEnd, decimal, nameAt, closed, numberAt, stepAt, told, verdictOf, pathCheck};
+ghost use Rattle.query.specs.Path.{isHead, isDigit, isTail, runEnd, decimal, nameAt, closed, numberAt, stepAt};
+ghost use Rattle.query.specs.Helpers.{told, verdictOf, pathCheck};
 
 // What reading at a place of the path hands back.
 pub enum Step {

@@ -39,13 +39,13 @@ unfolding answerOf
 returns-4 c = let a = c .before .before .before .before .before .before .before .args in rw (ne-eqb _ _ (c .before .before .before .if1 .left), le-ltb _ _ (c .before .before .if2 .left), le-leb 1 (a .levels) (omega arith), lt-leb (a .levels) 16 (omega arith))
 
 add-width : tie.Need-add-width
-add-width c = search needs
+add-width c = omega arith
 
 mul-if5 : tie.Need-mul-if5
-mul-if5 c = search needs
+mul-if5 c = omega arith
 
 add-if5 : tie.Need-add-if5
-add-if5 c = search needs
+add-if5 c = omega arith
 
 mul-if5-2 : tie.Need-mul-if5-2
 unfolding widthOf

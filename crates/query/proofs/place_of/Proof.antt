@@ -1,7 +1,6 @@
 -- Of all cases but one the place is 0.
 use mathlib.Core.Path.{_≡_, refl}
 use mathlib.Core.List.{_∷_, []}
-use Prim.Native.Nat.{ℕ}
 use types.Run.{OneOf, miss}
 use denote.Enum.Declared.{tagOf}
 use Rattle.query.specs.Answers.{refusalPlace}

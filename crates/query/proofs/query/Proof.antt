@@ -3,16 +3,16 @@ use mathlib.Core.Path.{refl, sym, _∙_, subst}
 use native.Mathlib.Omega.{arith}
 use lib.ListN.{length}
 use Rattle.query.specs.declared.types.Answer.the-variants.{Found}
-use Rattle.query.proofs.Inside.{In, answer-in}
+use Rattle.query.proofs.Inside.{Within, answer-in}
 use borrow.Author.Needs.{needs}
 use Rattle.query.proofs.query.Statement.{statement}
 use Rattle.query.proofs.query.Tie as tie
 
 -- what is found lies in the record
-within : (c : tie.After-known-told) → In (length (c .before .before .before .before .before .before .before .args .text .now)) (Found (c .before .told .given .0 .0) (c .before .told .given .0 .1 .0))
+within : (c : tie.After-known-told) → Within (length (c .before .before .before .before .before .before .before .args .text .now)) (Found (c .before .told .given .0 .0) (c .before .told .given .0 .1 .0))
 within c =
     let a = c .before .before .before .before .before .before .before .args in
-    subst (In (length (a .text .now))) (sym (c .before .before .before .answer .ensures) ∙ c .before .told .given .1) (answer-in (a .text .now) (a .words .now) (a .levels) (a .path .now))
+    subst (Within (length (a .text .now))) (sym (c .before .before .before .answer .ensures) ∙ c .before .told .given .1) (answer-in (a .text .now) (a .words .now) (a .levels) (a .path .now))
 
 answer-requires : tie.Need-answer-requires
 answer-requires c κs = search needs

@@ -3,7 +3,7 @@ use mathlib.Core.Path.{_≡_, sym, ap, _∙_, subst}
 use Prim.Native.Nat.{ℕ, _+_, _*_}
 use native.Mathlib.Omega.{arith}
 use Rattle.rules.specs.Layout.{address, row}
-use Rattle.query.specs.Lent.{mapped, Readable}
+use Rattle.query.specs.Helpers.{mapped, Readable}
 use Rattle.query.proofs.Lents.{address-in}
 use Rattle.query.specs.declared.bits.Map.{Map}
 use Rattle.query.specs.declared.bits.Shape.{Shape}

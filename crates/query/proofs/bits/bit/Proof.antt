@@ -1,4 +1,5 @@
 -- A bit of its word, by the definition of a lent bit.
+use native.Mathlib.Omega.{arith}
 use Rattle.rules.specs.Word.{bit}
 use Rattle.rules.specs.Layout.{bitIn}
 use borrow.Author.Needs.{needs}
@@ -9,7 +10,7 @@ word-requires : tie.Need-word-requires
 word-requires c κs = search needs
 
 shr-result : tie.Need-shr-result
-shr-result c = search needs
+shr-result c = omega arith
 
 returns : tie.Need-returns
 unfolding bitIn bit

@@ -4,7 +4,7 @@ use mathlib.Core.Path.{_≡_, refl, sym, _∙_}
 use native.Mathlib.Omega.{arith}
 use Rattle.rules.specs.Layout.{bitIn}
 use Rattle.query.specs.Places.{nthAt}
-use Rattle.query.specs.Lent.{mapped}
+use Rattle.query.specs.Helpers.{mapped}
 use Rattle.query.proofs.PlaceLaws.{nth-after, nth-past, nth-first}
 use borrow.Author.Needs.{needs}
 use Rattle.query.proofs.bits.bit_by_bit.Statement.{statement}
@@ -28,13 +28,13 @@ returns : tie.Need-returns Inv-loop μ-loop
 returns c = sym (c .before .before .before .loop .inv .1 ∙ nth-past _ _ _ _ _ (c .before .before .loop-test .taken) (sym (c .before .next-bit .ensures)) (c .if1 .taken))
 
 add-at : tie.Need-add-at Inv-loop μ-loop
-add-at c = search needs
+add-at c = omega arith
 
 sub-left : tie.Need-sub-left Inv-loop μ-loop
-sub-left c = search needs
+sub-left c = omega arith
 
 loop-less : tie.Need-loop-less Inv-loop μ-loop
-loop-less c = search needs
+loop-less c = omega arith
 
 loop-again : tie.Need-loop-again Inv-loop μ-loop
 loop-again c = (omega arith, c .before .before .before .loop .inv .1 ∙ nth-after _ _ _ _ _ (c .before .before .loop-test .taken) (sym (c .before .next-bit .ensures)) (c .if1 .left))

@@ -5,7 +5,7 @@ use native.Mathlib.Omega.{arith}
 use lib.Count.{trailing-le}
 use Rattle.rules.specs.Layout.{bitIn}
 use Rattle.query.specs.Places.{firstAt}
-use Rattle.query.specs.Lent.{mapped}
+use Rattle.query.specs.Helpers.{mapped}
 use Rattle.query.proofs.PlaceLaws.{first-none, first-skip, first-at, first-all}
 use Rattle.query.proofs.Standing.{Standing, standing-from, standing-whole, standing-zero, standing-low}
 use Rattle.query.proofs.Lents.{readable-to}
@@ -28,16 +28,16 @@ word-requires : tie.Need-word-requires Inv-loop μ-loop
 word-requires c κs = search needs
 
 shr-x : tie.Need-shr-x Inv-loop μ-loop
-shr-x c = search needs
+shr-x c = omega arith
 
 loop-holds : tie.Need-loop-holds Inv-loop μ-loop
 loop-holds c = (c .before .if1 .left, standing-from _ _ _ _ (c .before .before .before .args .a) _ (c .word .ensures) (c .word .ok), refl)
 
 add-w : tie.Need-add-w Inv-loop μ-loop
-add-w c = search needs
+add-w c = omega arith
 
 mul-at : tie.Need-mul-at Inv-loop μ-loop
-mul-at c = search needs
+mul-at c = omega arith
 
 returns-2 : tie.Need-returns-2 Inv-loop μ-loop
 returns-2 c =
@@ -48,7 +48,7 @@ word-requires-2 : tie.Need-word-requires-2 Inv-loop μ-loop
 word-requires-2 c κs = let p = c .before .before .before .before .before .before .pre in (p .1 .0, readable-to (p .1 .1) (omega arith))
 
 loop-less : tie.Need-loop-less Inv-loop μ-loop
-loop-less c = search needs
+loop-less c = omega arith
 
 loop-again : tie.Need-loop-again Inv-loop μ-loop
 loop-again c =

@@ -1,6 +1,6 @@
 -- The loop keeps how many bits the rest of the word has, and that the place with the number left, from there on, is the one asked for.
 use Prim.Native.Nat.{_+_, _*_, _-_, _/_, _%_, _^_, _≤_, _<_}
-use mathlib.Core.Path.{_≡_, refl, sym, ap, _∙_}
+use mathlib.Core.Path.{_≡_, refl, sym, _∙_}
 use native.Mathlib.Omega.{arith}
 use native.Mathlib.Nat.{lt-of-le-of-lt}
 use lib.Pow.{shr-le}
@@ -8,7 +8,7 @@ use lib.Count.{ones-le}
 use Rattle.rules.specs.Word.{count}
 use Rattle.rules.specs.Layout.{bitIn}
 use Rattle.query.specs.Places.{nthAt}
-use Rattle.query.specs.Lent.{mapped}
+use Rattle.query.specs.Helpers.{mapped}
 use Rattle.query.proofs.PlaceLaws.{nth-none, nth-skip, nth-few}
 use Rattle.query.proofs.Standing.{standing-from, standing-whole, standing-ones}
 use Rattle.query.proofs.Lents.{readable-to}
@@ -31,7 +31,7 @@ word-requires : tie.Need-word-requires Inv-loop μ-loop
 word-requires c κs = search needs
 
 shr-ones : tie.Need-shr-ones Inv-loop μ-loop
-shr-ones c = search needs
+shr-ones c = omega arith
 
 cast-ones : tie.Need-cast-ones Inv-loop μ-loop
 cast-ones c = let s = c .before .before .before .args .a % 64 in omega (arith, ones-le 64 (c .word .result / 2 ^ s) (lt-of-le-of-lt (shr-le (c .word .result) s) (c .word .ok)))
@@ -42,10 +42,10 @@ loop-holds c =
     (omega arith, omega arith, omega arith, standing-ones _ _ _ _ s, refl)
 
 add-w : tie.Need-add-w Inv-loop μ-loop
-add-w c = search needs
+add-w c = omega arith
 
 mul-at : tie.Need-mul-at Inv-loop μ-loop
-mul-at c = search needs
+mul-at c = omega arith
 
 returns-2 : tie.Need-returns-2 Inv-loop μ-loop
 returns-2 c =
@@ -59,7 +59,7 @@ cast-ones-2 : tie.Need-cast-ones-2 Inv-loop μ-loop
 cast-ones-2 c = omega (arith, ones-le 64 _ (c .word2 .ok))
 
 loop-less : tie.Need-loop-less Inv-loop μ-loop
-loop-less c = search needs
+loop-less c = omega arith
 
 loop-again : tie.Need-loop-again Inv-loop μ-loop
 loop-again c =

@@ -1,6 +1,6 @@
 -- Both loops keep where the walk over the items stands.
 use Prim.Native.Nat.{_-_}
-use mathlib.Core.Path.{_≡_, sym, ap, subst, _∙_}
+use mathlib.Core.Path.{sym, subst, _∙_}
 use mathlib.Core.List.{_∷_, []}
 use native.Mathlib.Omega.{arith}
 use lib.Count.{trailing-le}
@@ -34,7 +34,7 @@ word-requires : tie.Need-word-requires Inv-loop μ-loop Inv-walk μ-walk
 word-requires c κs = let p = c .before .before .before .pre in (p .0 .long, readable-to (can-read _ _ _ (p .0) _ (p .1 .1 .1) _ (p .1 .0)) (omega (arith, p .0 .inside)))
 
 shr-x : tie.Need-shr-x Inv-loop μ-loop Inv-walk μ-walk
-shr-x c = search needs
+shr-x c = omega arith
 
 walk-holds : tie.Need-walk-holds Inv-loop μ-loop Inv-walk μ-walk
 walk-holds c = walking-from _ _ _ _ _ _ (c .before .before .before .before .pre .1 .1 .0) (standing-from _ _ _ _ _ _ (c .word .ensures) (c .word .ok))
@@ -58,25 +58,25 @@ enum-told : tie.Need-enum-told Inv-loop μ-loop Inv-walk μ-walk
 enum-told c = search needs
 
 add-start : tie.Need-add-start Inv-loop μ-loop Inv-walk μ-walk
-add-start c = search needs
+add-start c = omega arith
 
 cast-x : tie.Need-cast-x Inv-loop μ-loop Inv-walk μ-walk
-cast-x c = search needs
+cast-x c = omega arith
 
 shr-x-2 : tie.Need-shr-x-2 Inv-loop μ-loop Inv-walk μ-walk
 shr-x-2 c = let g = c .before .before .before .before .before .loop in lowest 64 (g .x) (omega arith) (g .inv .standing .fits) .0
 
 loop-less : tie.Need-loop-less Inv-loop μ-loop Inv-walk μ-walk
-loop-less c = search needs
+loop-less c = omega arith
 
 loop-again : tie.Need-loop-again Inv-loop μ-loop Inv-walk μ-walk
 loop-again c = walking-next _ _ _ _ _ _ _ _ (c .before .before .before .before .before .loop .inv) (c .before .before .before .before .loop-test .taken) (c .before .before .before .if1 .left) (sym (c .before .before .item-of2 .ensures) ∙ c .enum-told .given .1)
 
 add-w : tie.Need-add-w Inv-loop μ-loop Inv-walk μ-walk
-add-w c = search needs
+add-w c = omega arith
 
 mul-at : tie.Need-mul-at Inv-loop μ-loop Inv-walk μ-walk
-mul-at c = search needs
+mul-at c = omega arith
 
 item-of-requires-3 : tie.Need-item-of-requires-3 Inv-loop μ-loop Inv-walk μ-walk
 item-of-requires-3 c κs = let p = c .before .before .before .before .before .before .before .before .pre in let g = c .before .before .loop .inv in (p .0, (p .1 .0, (omega (arith, g .order, g .within), p .1 .1 .1, p .1 .1 .2, p .1 .1 .3)))
@@ -85,7 +85,7 @@ word-requires-2 : tie.Need-word-requires-2 Inv-loop μ-loop Inv-walk μ-walk
 word-requires-2 c κs = let p = c .before .before .before .before .before .before .before .before .pre in (p .0 .long, readable-to (can-read _ _ _ (p .0) _ (p .1 .1 .1) _ (p .1 .0)) (omega (arith, p .0 .inside)))
 
 walk-less : tie.Need-walk-less Inv-loop μ-loop Inv-walk μ-walk
-walk-less c = search needs
+walk-less c = omega arith
 
 walk-again : tie.Need-walk-again Inv-loop μ-loop Inv-walk μ-walk
 walk-again c = walking-word _ _ _ _ _ _ _ _ (c .before .before .before .loop .inv) _ (c .before .before .loop-test .left) (c .before .if2 .left) (standing-whole _ _ _ _ _ _ (c .word2 .ensures) (c .word2 .ok))

@@ -10,7 +10,7 @@ use Rattle.query.proofs.items.is_quoted.Statement.{statement}
 use Rattle.query.proofs.items.is_quoted.Tie as tie
 
 add-if1 : tie.Need-add-if1
-add-if1 c = search needs
+add-if1 c = omega arith
 
 returns : tie.Need-returns
 unfolding quoted
@@ -24,7 +24,7 @@ unfolding quoted
 returns-2 c = rw (lt-ltb _ _ (c .before .before .if1 .left), ← c .before .bit .ensures, not-true (c .before .bit .result) (c .if2 .taken))
 
 add-next-bit : tie.Need-add-next-bit
-add-next-bit c = search needs
+add-next-bit c = omega arith
 
 next-bit-requires : tie.Need-next-bit-requires
 next-bit-requires c κs = search needs

@@ -1,4 +1,5 @@
 -- By the comma before the item, where it has one.
+use native.Mathlib.Omega.{arith}
 use mathlib.Core.Path.{sym, _∙_}
 use Rattle.query.proofs.ItemLaws.{item-none, item-some}
 use Rattle.query.proofs.Lents.{can-read}
@@ -13,7 +14,7 @@ returns : tie.Need-returns
 returns c = rw (c .before .if1 .taken) (c .item-from .ensures)
 
 sub-nth-bit : tie.Need-sub-nth-bit
-sub-nth-bit c = search needs
+sub-nth-bit c = omega arith
 
 nth-bit-requires : tie.Need-nth-bit-requires
 nth-bit-requires c κs =
@@ -24,7 +25,7 @@ returns-2 : tie.Need-returns-2
 returns-2 c = sym (item-none _ _ _ _ _ _ (c .before .before .if1 .left) (c .before .nth-bit .ensures) (c .if2 .taken))
 
 add-item-from : tie.Need-add-item-from
-add-item-from c = search needs
+add-item-from c = omega arith
 
 item-from-requires-2 : tie.Need-item-from-requires-2
 item-from-requires-2 c κs = search needs

@@ -3,7 +3,6 @@ use Prim.Native.Nat.{_+_, _≤_, _<_}
 use mathlib.Core.Path.{sym, _∙_}
 use native.Mathlib.Omega.{arith}
 use borrow.Author.Tests.{not-true, not-false}
-use lib.ListN.{length}
 use Rattle.query.specs.Places.{byteIn}
 use Rattle.query.specs.Items.{solid, keyed}
 use Rattle.query.proofs.PlaceLaws.{first-le, last-bounds}
@@ -49,7 +48,7 @@ same-name-requires : tie.Need-same-name-requires
 same-name-requires c κs = let f = small c in (omega arith, omega arith, omega arith, omega arith)
 
 add-value-at : tie.Need-add-value-at
-add-value-at c = search needs
+add-value-at c = omega arith
 
 value-at-requires : tie.Need-value-at-requires
 value-at-requires c κs = search needs

@@ -5,7 +5,6 @@ use native.Mathlib.Omega.{arith}
 use Rattle.query.specs.Places.{byteIn, between}
 use Rattle.query.specs.Items.{same}
 use Rattle.query.proofs.Names.{same-short, same-none, same-next, same-stop}
-use borrow.Author.Needs.{needs}
 use Rattle.query.proofs.items.same_name.Statement.{statement}
 use Rattle.query.proofs.items.same_name.Tie as tie
 
@@ -16,10 +15,10 @@ abbrev μ-loop : tie.MeasureT-loop
 μ-loop text p q path b f n k₀ k = n - k
 
 sub-n : tie.Need-sub-n Inv-loop μ-loop
-sub-n c = search needs
+sub-n c = omega arith
 
 sub-if1 : tie.Need-sub-if1 Inv-loop μ-loop
-sub-if1 c = search needs
+sub-if1 c = omega arith
 
 returns : tie.Need-returns Inv-loop μ-loop
 returns c = let a = c .before .args in sym (same-short (byteIn (a .text .now)) (a .p) (a .q) (byteIn (a .path .now)) (a .b) (a .f) (c .if1 .taken))
@@ -32,16 +31,16 @@ loop-holds c =
     (omega arith, rw (y, z))
 
 add-if2 : tie.Need-add-if2 Inv-loop μ-loop
-add-if2 c = search needs
+add-if2 c = omega arith
 
 shared-slice-read-if2 : tie.Need-shared-slice-read-if2 Inv-loop μ-loop
-shared-slice-read-if2 c = search needs
+shared-slice-read-if2 c = omega arith
 
 add-if2-2 : tie.Need-add-if2-2 Inv-loop μ-loop
-add-if2-2 c = search needs
+add-if2-2 c = omega arith
 
 shared-slice-read-if2-2 : tie.Need-shared-slice-read-if2-2 Inv-loop μ-loop
-shared-slice-read-if2-2 c = search needs
+shared-slice-read-if2-2 c = omega arith
 
 returns-2 : tie.Need-returns-2 Inv-loop μ-loop
 unfolding byteIn
@@ -50,10 +49,10 @@ returns-2 c =
     sym (l .inv .1 ∙ same-stop _ _ _ _ _ _ (omega arith) (omega arith) (c .if2 .taken))
 
 add-k : tie.Need-add-k Inv-loop μ-loop
-add-k c = search needs
+add-k c = omega arith
 
 loop-less : tie.Need-loop-less Inv-loop μ-loop
-loop-less c = search needs
+loop-less c = omega arith
 
 loop-again : tie.Need-loop-again Inv-loop μ-loop
 unfolding byteIn

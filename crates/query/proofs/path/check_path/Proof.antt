@@ -1,11 +1,12 @@
 -- The loop keeps that the check of the rest, with what was seen before it, is the check of the path.
-use Prim.Native.Nat.{ℕ, _+_, _-_, _≤_, _<_}
-use mathlib.Core.Path.{_≡_, refl, sym, ap, _∙_}
+use Prim.Native.Nat.{_+_, _-_, _<_}
+use mathlib.Core.Path.{sym, _∙_}
 use mathlib.Core.Logic.{⊎-elim}
 use native.Mathlib.Omega.{arith}
 use borrow.Author.Tests.{lt-ltb, le-ltb, ne-eqb}
 use lib.ListN.{length, List·getD-eq-default}
-use Rattle.query.specs.Path.{readFrom, readPath, pathCheck}
+use Rattle.query.specs.Path.{readPath}
+use Rattle.query.specs.Helpers.{pathCheck}
 use Rattle.query.proofs.Checking.{Checking, checking-start, checking-name, checking-number, checking-end, checking-bad}
 use borrow.Author.Needs.{needs}
 use Rattle.query.proofs.path.check_path.Statement.{statement}
@@ -37,7 +38,7 @@ unfolding pathCheck readPath
 returns-2 c = let a = c .before .before .before .args in rw (le-ltb 1024 (length (a .path .now)) (omega arith), List·getD-eq-default (a .path .now) 0 {n = 0} (omega arith))
 
 shared-slice-read-if3 : tie.Need-shared-slice-read-if3 Inv-loop μ-loop
-shared-slice-read-if3 c = search needs
+shared-slice-read-if3 c = omega arith
 
 returns-3 : tie.Need-returns-3 Inv-loop μ-loop
 unfolding pathCheck readPath

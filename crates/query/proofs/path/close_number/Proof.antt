@@ -1,7 +1,7 @@
 -- Test by test, as the definition.
+use native.Mathlib.Omega.{arith}
 use borrow.Author.Tests.{ne-eqb}
 use lib.ListN.{List·getD-eq-default}
-use borrow.Author.Needs.{needs}
 use Rattle.query.proofs.path.close_number.Statement.{statement}
 use Rattle.query.proofs.path.close_number.Tie as tie
 
@@ -9,10 +9,10 @@ returns : tie.Need-returns
 returns c = rw (List·getD-eq-default (c .before .args .path .now) 0 (c .if1 .taken))
 
 shared-slice-read-if2 : tie.Need-shared-slice-read-if2
-shared-slice-read-if2 c = search needs
+shared-slice-read-if2 c = omega arith
 
 add-t9 : tie.Need-add-t9
-add-t9 c = search needs
+add-t9 c = omega arith
 
 returns-2 : tie.Need-returns-2
 returns-2 c = rw (c .if2 .taken)

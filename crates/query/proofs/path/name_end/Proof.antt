@@ -20,7 +20,7 @@ loop-holds : tie.Need-loop-holds Inv-loop μ-loop
 loop-holds c = (omega arith, refl)
 
 shared-slice-read-is-tail : tie.Need-shared-slice-read-is-tail Inv-loop μ-loop
-shared-slice-read-is-tail c = search needs
+shared-slice-read-is-tail c = omega arith
 
 is-tail-requires : tie.Need-is-tail-requires Inv-loop μ-loop
 is-tail-requires c κs = search needs
@@ -31,10 +31,10 @@ returns c =
     sym (i .inv .1 ∙ first-here _ _ _ (omega arith) (ap not (sym (c .before .is-tail .ensures)) ∙ c .if1 .taken))
 
 add-i : tie.Need-add-i Inv-loop μ-loop
-add-i c = search needs
+add-i c = omega arith
 
 loop-less : tie.Need-loop-less Inv-loop μ-loop
-loop-less c = search needs
+loop-less c = omega arith
 
 loop-again : tie.Need-loop-again Inv-loop μ-loop
 loop-again c =

@@ -24,7 +24,7 @@ unfolding decimal
 loop-holds c = let z : c .before .args .from - c .before .args .from ≡ 0 = omega arith in (omega arith, omega arith, refl, rw z)
 
 shared-slice-read-b : tie.Need-shared-slice-read-b Inv-loop μ-loop
-shared-slice-read-b c = search needs
+shared-slice-read-b c = omega arith
 
 is-digit-requires : tie.Need-is-digit-requires Inv-loop μ-loop
 is-digit-requires c κs = search needs
@@ -35,7 +35,7 @@ returns c =
     (sym (i .inv .2 ∙ first-here _ _ _ (omega arith) (ap not (sym (c .before .is-digit .ensures)) ∙ c .if1 .taken)), i .inv .3)
 
 mul-v : tie.Need-mul-v Inv-loop μ-loop
-mul-v c = search needs
+mul-v c = omega arith
 
 sub-v : tie.Need-sub-v Inv-loop μ-loop
 sub-v c = digit-range _ (sym (c .before .is-digit .ensures) ∙ not-false _ (c .if1 .left)) .0
@@ -47,10 +47,10 @@ add-v : tie.Need-add-v Inv-loop μ-loop
 add-v c = omega (arith, digit-range _ (sym (c .before .is-digit .ensures) ∙ not-false _ (c .if1 .left)))
 
 add-i : tie.Need-add-i Inv-loop μ-loop
-add-i c = search needs
+add-i c = omega arith
 
 loop-less : tie.Need-loop-less Inv-loop μ-loop
-loop-less c = search needs
+loop-less c = omega arith
 
 loop-again : tie.Need-loop-again Inv-loop μ-loop
 loop-again c =

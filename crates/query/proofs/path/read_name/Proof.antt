@@ -1,4 +1,5 @@
 -- Test by test, as the definition.
+use native.Mathlib.Omega.{arith}
 use borrow.Author.Tests.{not-true, not-false}
 use lib.ListN.{List·getD-eq-default}
 use Rattle.query.specs.Path.{isHead}
@@ -11,7 +12,7 @@ unfolding isHead
 returns c = rw (List·getD-eq-default (c .before .before .args .path .now) 0 (c .if1 .taken))
 
 shared-slice-read-is-head : tie.Need-shared-slice-read-is-head
-shared-slice-read-is-head c = search needs
+shared-slice-read-is-head c = omega arith
 
 is-head-requires : tie.Need-is-head-requires
 is-head-requires c κs = search needs
@@ -20,7 +21,7 @@ returns-2 : tie.Need-returns-2
 returns-2 c = rw (← c .before .is-head .ensures, not-true (c .before .is-head .result) (c .if2 .taken))
 
 add-name-end : tie.Need-add-name-end
-add-name-end c = search needs
+add-name-end c = omega arith
 
 name-end-requires : tie.Need-name-end-requires
 name-end-requires c κs = search needs

@@ -16,10 +16,10 @@ unfolding isDigit
 returns c = let a = c .before .before .args in sym (number-none (a .path .now) (a .from) (ap isDigit (List·getD-eq-default (c .before .before .args .path .now) 0 (c .if1 .taken))))
 
 shared-slice-read-b : tie.Need-shared-slice-read-b
-shared-slice-read-b c = search needs
+shared-slice-read-b c = omega arith
 
 add-close-number : tie.Need-add-close-number
-add-close-number c = search needs
+add-close-number c = omega arith
 
 close-number-requires : tie.Need-close-number-requires
 close-number-requires c κs = search needs

@@ -1,8 +1,10 @@
 -- Test by test, as the definition.
+use native.Mathlib.Omega.{arith}
 use Prim.Native.Nat.{_+_}
 use mathlib.Core.Path.{sym, _∙_}
 use borrow.Author.Tests.{ne-eqb, lt-ltb, le-ltb}
-use Rattle.query.specs.Path.{told, stepAt}
+use Rattle.query.specs.Path.{stepAt}
+use Rattle.query.specs.Helpers.{told}
 use Rattle.query.proofs.PathLaws.{told-name}
 use borrow.Author.Needs.{needs}
 use Rattle.query.proofs.path.read_step.Statement.{statement}
@@ -13,10 +15,10 @@ unfolding told stepAt
 returns c = rw (le-ltb _ _ (c .if1 .taken))
 
 shared-slice-read-b : tie.Need-shared-slice-read-b
-shared-slice-read-b c = search needs
+shared-slice-read-b c = omega arith
 
 add-read-name : tie.Need-add-read-name
-add-read-name c = search needs
+add-read-name c = omega arith
 
 read-name-requires : tie.Need-read-name-requires
 read-name-requires c κs = search needs
@@ -26,7 +28,7 @@ unfolding stepAt
 returns-2 c = let a = c .before .before .before .before .before .args in rw (lt-ltb _ _ (c .before .before .before .if1 .left), c .before .if2 .taken) (c .read-name .ensures ∙ sym (told-name (a .path .now) (a .at + 1)))
 
 add-read-number : tie.Need-add-read-number
-add-read-number c = search needs
+add-read-number c = omega arith
 
 read-number-requires : tie.Need-read-number-requires
 read-number-requires c κs = search needs

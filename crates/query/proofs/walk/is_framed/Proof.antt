@@ -1,30 +1,30 @@
 -- Test by test, as the definition.
+use native.Mathlib.Omega.{arith}
 use borrow.Author.Tests.{eq-eqb, ne-eqb, lt-ltb, le-ltb}
 use Rattle.query.specs.Places.{byteIn}
 use Rattle.query.specs.Walk.{framed}
-use borrow.Author.Needs.{needs}
 use Rattle.query.proofs.walk.is_framed.Statement.{statement}
 use Rattle.query.proofs.walk.is_framed.Tie as tie
 
 add-if1 : tie.Need-add-if1
-add-if1 c = search needs
+add-if1 c = omega arith
 
 returns : tie.Need-returns
 unfolding framed
 returns c = rw (le-ltb _ _ (c .if1 .taken))
 
 shared-slice-read-if2 : tie.Need-shared-slice-read-if2
-shared-slice-read-if2 c = search needs
+shared-slice-read-if2 c = omega arith
 
 returns-2 : tie.Need-returns-2
 unfolding framed byteIn
 returns-2 c = rw (lt-ltb _ _ (c .before .before .if1 .left), ne-eqb _ _ (c .if2 .taken))
 
 sub-result : tie.Need-sub-result
-sub-result c = search needs
+sub-result c = omega arith
 
 shared-slice-read-result : tie.Need-shared-slice-read-result
-shared-slice-read-result c = search needs
+shared-slice-read-result c = omega arith
 
 returns-3 : tie.Need-returns-3
 unfolding framed byteIn

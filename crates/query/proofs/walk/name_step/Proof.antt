@@ -38,7 +38,7 @@ unfolding nameStep
 returns-2 c = rw (← c .before .before .before .is-framed .ensures, not-false (c .before .before .before .is-framed .result) (c .before .before .if1 .left), ← c .before .is-filled .ensures, not-true (c .before .is-filled .result) (c .if2 .taken))
 
 add-find-name : tie.Need-add-find-name
-add-find-name c = search needs
+add-find-name c = omega arith
 
 sub-find-name : tie.Need-sub-find-name
 sub-find-name c = omega (arith, some c)

@@ -38,7 +38,7 @@ unfolding numberStep
 returns-2 c = rw (← c .before .before .before .is-framed .ensures, not-false (c .before .before .before .is-framed .result) (c .before .before .if1 .left), ← c .before .is-filled .ensures, not-true (c .before .is-filled .result) (c .if2 .taken))
 
 add-item-no : tie.Need-add-item-no
-add-item-no c = search needs
+add-item-no c = omega arith
 
 sub-item-no : tie.Need-sub-item-no
 sub-item-no c = omega (arith, some c)
