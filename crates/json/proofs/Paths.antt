@@ -24,7 +24,7 @@ use Rattle.query.specs.declared.types.Answer.the-variants.{Found, Refused}
 use Rattle.query.specs.declared.types.Refusal.the-variants.{EmptyRecord, LongRecord, BadLevels, BadBuffer, TooLarge, TooDeep}
 use Rattle.query.proofs.PlaceLaws.{pick-ind}
 use Rattle.query.proofs.Reading.{reads}
-use Rattle.query.proofs.Inside.{In as Within, InItem, value-in, step-in}
+use Rattle.query.proofs.Inside.{Within, WithinItem, value-in, step-in}
 use Rattle.json.specs.Grammar.{Text}
 use Rattle.json.specs.Select.{Json, valueOf, firstOf, bytesOf, children, flat, segments, select, deep, Fair}
 use Rattle.json.specs.Demand2.{Obeys, root, Asked, Selects, Claim}
@@ -132,7 +132,7 @@ module _ (text : List ℕ) (kids : Selector → Json → List Json) (P : Json �
   unfolding walk
   from-whole x ss q p h =
       let fits = value-in (byteIn text) 0 (length text) (length text) (omega arith) (omega arith) in
-      let f : InItem (length text) (Items.Found (h .place) (h .place + length (bareBytes (h .value)))) = rw (h .is-part) at fits in
+      let f : WithinItem (length text) (Items.Found (h .place) (h .place + length (bareBytes (h .value)))) = rw (h .is-part) at fits in
       rw (h .is-tree, h .is-part) (walked text kids P Q agree keeps ss 0 (h .place) (h .value) q (rw (h .is-tree) at p) (h .good) (f .1))
 
 -- ---- the steps of the subset's paths have ASCII names
