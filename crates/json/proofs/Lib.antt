@@ -1,0 +1,25 @@
+-- Theorems about the texts of RFC 8259.
+pub mod Padded
+pub mod Tests
+pub mod Recogniser
+pub mod SoundNumbers
+pub mod SoundStrings
+pub mod SoundValues
+pub mod CompleteNumbers
+pub mod CompleteStrings
+pub mod CompleteValues
+pub mod Trials
+pub mod Characters
+pub mod Machine
+pub mod Derive
+pub mod Trace
+pub mod Stretches
+pub mod Verdicts
+pub mod Names
+pub mod Parts
+pub mod Values
+pub mod Elements
+pub mod Members
+pub mod Steps
+pub mod Paths
+pub mod Sample

@@ -1,0 +1,250 @@
+-- The path theorem: step after step the walk and RFC 9535 take the same node, from the whole text on. By the steps of the path.
+use mathlib.Core.Path.{_≡_, refl, _∙_}
+use mathlib.Core.Bool.{true, false, not, _&&_}
+use mathlib.Core.Logic.{_≢_}
+use mathlib.Core.List.{List, [], _∷_, _++_, append-nil}
+use Prim.Native.Nat.{ℕ, suc, _+_, _-_, _≤_, _<_}
+use native.Mathlib.Nat.{add-zero, zero-add}
+use native.Mathlib.Numerals.{add-one}
+use native.Mathlib.Omega.{arith}
+use borrow.Author.Tests.{ne-eqb, eq-eqb, le-ltb, le-leb, ltb-false}
+use lib.Dec.{eqb, ltb, leb}
+use lib.ListN.{length, take, drop, length-append, length-take, length-drop}
+use lib.Seq.{ext-getD, getD-take, getD-drop}
+use Rattle.rules.specs.Layout.{sizeOf, Promise}
+use Rattle.query.specs.Grammar.{Selector, Letter, Rest, Name, Steps, Path}
+use Rattle.query.specs.Places.{byteIn}
+use Rattle.query.specs.Items.{ruled, valueAt}
+use Rattle.query.specs.Path.{Reading, good, bad, readPath, large}
+use Rattle.query.specs.Walk.{onFound, walkFrom, walk}
+use Rattle.query.specs.Answers.{numberOf, partOf, afterReading, answerOf}
+use Rattle.query.specs.declared.items.Item.the-variants as Items
+use Rattle.query.specs.declared.types.Answer.{Answer}
+use Rattle.query.specs.declared.types.Answer.the-variants.{Found, Refused}
+use Rattle.query.specs.declared.types.Refusal.the-variants.{EmptyRecord, LongRecord, BadLevels, BadBuffer, TooLarge, TooDeep}
+use Rattle.query.proofs.PlaceLaws.{pick-ind}
+use Rattle.query.proofs.Reading.{reads}
+use Rattle.query.proofs.Inside.{Within, WithinItem, value-in, step-in}
+use Rattle.json.specs.Grammar.{Text}
+use Rattle.json.specs.Select.{Json, valueOf, firstOf, bytesOf, children, flat, segments, select, deep, Fair}
+use Rattle.json.specs.Demand2.{Obeys, root, Asked, Selects, Claim}
+use Rattle.json.proofs.Padded.{Bare, Pad, bareBytes, padBytes, bareTree, padded, paddedText, text-same-bytes, text-same-tree}
+use Rattle.json.proofs.Trace.{at-start, Seg}
+use Rattle.json.proofs.Stretches.{seg-at, seg-self}
+use Rattle.json.proofs.Values.{value-ends, Good, Hit, pad-hit}
+use Rattle.json.proofs.Steps.{Outcome, step-right}
+use Rattle.query.proofs.Agree.{walk-promised}
+use Rattle.json.proofs.Names.{Ascii, PlainName, rawChildren, children-same, AllFair, children-fair}
+use Rattle.json.proofs.Verdicts.{text-sound}
+
+-- ---- a node and its part
+
+first-tree : (a : ℕ) (v : Bare) → firstOf (bareTree a v) ≡ a
+first-tree a Bare.false = refl
+first-tree a Bare.null = refl
+first-tree a Bare.true = refl
+first-tree a (Bare.num n) = refl
+first-tree a (Bare.string s) = refl
+first-tree a (Bare.empty-array b) = refl
+first-tree a (Bare.array es) = refl
+first-tree a (Bare.empty-object b) = refl
+first-tree a (Bare.object ms) = refl
+
+bytes-tree : (a : ℕ) (v : Bare) → bytesOf (bareTree a v) ≡ bareBytes v
+bytes-tree a Bare.false = refl
+bytes-tree a Bare.null = refl
+bytes-tree a Bare.true = refl
+bytes-tree a (Bare.num n) = refl
+bytes-tree a (Bare.string s) = refl
+bytes-tree a (Bare.empty-array b) = refl
+bytes-tree a (Bare.array es) = refl
+bytes-tree a (Bare.empty-object b) = refl
+bytes-tree a (Bare.object ms) = refl
+
+-- a stretch that lies in the record is a part of it
+seg-part : (text : List ℕ) (a : ℕ) (bs : List ℕ) → Seg text a bs → a + length bs ≤ length text → partOf text (Found a (a + length bs)) ≡ bs
+seg-part text a bs g h =
+    let n : a + length bs - a ≡ length bs = omega arith in
+    let l : length (take (length bs) (drop a text)) ≡ length bs = simp (length-take, length-drop) (omega arith) in
+    rw n
+    (ext-getD 0 (take (length bs) (drop a text)) bs l
+    (λ i m. getD-take (length bs) (drop a text) i 0 (omega (arith, l)) ∙ getD-drop a text i 0 ∙ seg-at text a bs i g (omega (arith, l))))
+
+one-part : (text : List ℕ) (t : Json) (a : ℕ) (bs : List ℕ) → firstOf t ≡ a → bytesOf t ≡ bs → partOf text (Found a (a + length bs)) ≡ bs
+    → Selects text (t ∷ []) (Found a (a + length bs))
+one-part text t a bs e f g =
+    let h : Selects text (t ∷ []) (Found (firstOf t) (firstOf t + length (bytesOf t))) = Selects.one t (rw (e, f) g) in
+    rw (e, f) at h
+
+-- ---- along a path, by any selection that at derived values takes what the walk takes
+
+abbrev All : (Json → Type 0) → List Json → Type 0
+All P [] = Unit {0}
+All P (t ∷ ts) = P t × All P ts
+
+abbrev Each : (Selector → Type 0) → List Selector → Type 0
+Each Q [] = Unit {0}
+Each Q (s ∷ ss) = Q s × Each Q ss
+
+abbrev along : (Selector → Json → List Json) → List Selector → List Json → List Json
+along kids [] ts = ts
+along kids (s ∷ ss) ts = along kids ss (flat (kids s) ts)
+
+along-none : (kids : Selector → Json → List Json) (ss : List Selector) → along kids ss [] ≡ []
+unfolding flat
+along-none kids [] = refl
+along-none kids (s ∷ ss) = along-none kids ss
+
+module _ (text : List ℕ) (kids : Selector → Json → List Json) (P : Json → Type 0) (Q : Selector → Type 0)
+    (agree : (s : Selector) (a : ℕ) (v : Bare) → Q s → P (bareTree a v) → rawChildren s (bareTree a v) ≡ kids s (bareTree a v))
+    (keeps : (s : Selector) (t : Json) → P t → All P (kids s t)) where
+  walked : (ss : List Selector) (k a : ℕ) (v : Bare) → Each Q ss → P (bareTree a v) → Good text k a v → a + length (bareBytes v) ≤ length text
+      → Selects text (along kids ss (bareTree a v ∷ [])) (walkFrom (byteIn text) (ruled text) (suc k) ss a (a + length (bareBytes v)))
+  unfolding walkFrom flat
+  walked [] k a v q p g l = one-part text (bareTree a v) a (bareBytes v) (first-tree a v) (bytes-tree a v) (seg-part text a (bareBytes v) (g .seg) l)
+  walked (s ∷ ss) k a v q p g l =
+      go (rw (agree s a v (q .0) p) at (step-right text k s a v g)) (keeps s (bareTree a v) p) (step-in (byteIn text) (ruled text) (length text) (suc k) s a _ l)
+      (λ a v p g l. walked ss (suc k) a v (q .1) p g l)
+    where
+      go : {x : Answer} → Outcome text (suc k) (kids s (bareTree a v)) x → All P (kids s (bareTree a v)) → Within (length text) x
+          → ((a : ℕ) (v : Bare) → P (bareTree a v) → Good text (suc k) a v → a + length (bareBytes v) ≤ length text
+          → Selects text (along kids ss (bareTree a v ∷ [])) (walkFrom (byteIn text) (ruled text) (suc (suc k)) ss a (a + length (bareBytes v))))
+          → Selects text (along kids ss (flat (kids s) (bareTree a v ∷ []))) (onFound x (λ b f. walkFrom (byteIn text) (ruled text) (suc k + 1) ss b f) Refused)
+      go (Outcome.miss why h e f) p i r = rw (e, f, along-none kids ss) (Selects.none {why = why} (omega (arith, h)))
+      go (Outcome.hit a v e f g) p i r =
+          let pa : P (bareTree a v) × Unit {0} = rw e at p in
+          let fits : Within (length text) (Found a (a + length (bareBytes v))) = rw f at i in
+          rw (e, f, append-nil, add-one) (r a v (pa .0) g (fits .1))
+
+-- the whole text is a value and blanks
+whole : (text : List ℕ) (t : Text text) → deep (valueOf (t .derivation)) ≤ 64 → Hit text 0 (valueOf (t .derivation)) (valueAt (byteIn text) 0 (length text))
+whole text t d =
+    let p : Pad = paddedText (t .derivation) in
+    let e : padBytes p ≡ text = text-same-bytes (t .derivation) ∙ t .derives in
+    let low : deep (padded 0 p) + 0 ≤ 64 = rw (add-zero, text-same-tree (t .derivation)) d in
+    let h : Hit text 0 (padded 0 p) (valueAt (byteIn text) 0 (0 + length (padBytes p))) = pad-hit text 0 0 p (rw e (seg-self text)) (at-start text) low in
+    rw (zero-add, e, text-same-tree (t .derivation)) at h
+
+module _ (text : List ℕ) (kids : Selector → Json → List Json) (P : Json → Type 0) (Q : Selector → Type 0)
+    (agree : (s : Selector) (a : ℕ) (v : Bare) → Q s → P (bareTree a v) → rawChildren s (bareTree a v) ≡ kids s (bareTree a v))
+    (keeps : (s : Selector) (t : Json) → P t → All P (kids s t)) where
+  from-whole : (x : Json) (ss : List Selector) → Each Q ss → P x → Hit text 0 x (valueAt (byteIn text) 0 (length text)) → Selects text (along kids ss (x ∷ [])) (walk text (ruled text) ss)
+  unfolding walk
+  from-whole x ss q p h =
+      let fits = value-in (byteIn text) 0 (length text) (length text) (omega arith) (omega arith) in
+      let f : WithinItem (length text) (Items.Found (h .place) (h .place + length (bareBytes (h .value)))) = rw (h .is-part) at fits in
+      rw (h .is-tree, h .is-part) (walked text kids P Q agree keeps ss 0 (h .place) (h .value) q (rw (h .is-tree) at p) (h .good) (f .1))
+
+-- ---- the steps of the subset's paths have ASCII names
+
+letter-ascii : {b : ℕ} → Letter b → b < 0x80
+letter-ascii (Letter.upper h) = omega arith
+letter-ascii (Letter.lower h) = omega arith
+letter-ascii Letter.underscore = omega arith
+
+rest-ascii : {bs : List ℕ} → Rest bs → Ascii bs
+rest-ascii Rest.none = tt
+rest-ascii (Rest.letter l r) = (letter-ascii l, rest-ascii r)
+rest-ascii (Rest.digit h r) = (omega arith, rest-ascii r)
+
+name-ascii : {n : List ℕ} → Name n → Ascii n
+name-ascii (Name.starts l r) = (letter-ascii l, rest-ascii r)
+
+steps-plain : {bs : List ℕ} {ss : List Selector} → Steps bs ss → Each PlainName ss
+steps-plain Steps.none = tt
+steps-plain (Steps.dot n s) = (name-ascii n, steps-plain s)
+steps-plain (Steps.bracket d s) = (tt, steps-plain s)
+
+path-plain : {bs : List ℕ} {ss : List Selector} → Path bs ss → Each PlainName ss
+path-plain (Path.root s) = steps-plain s
+
+-- ---- by the rules' bits
+
+-- with unescaped and unrepeated names: what RFC 9535 selects
+along-segments : (ss : List Selector) (ts : List Json) → along children ss ts ≡ segments ss ts
+unfolding segments
+along-segments [] ts = refl
+along-segments (s ∷ ss) ts = along-segments ss (flat (children s) ts)
+
+all-fair : (ts : List Json) → AllFair ts → All Fair ts
+all-fair [] h = tt
+all-fair (t ∷ ts) h = (h .0, all-fair ts (h .1))
+
+walk-selects : (text : List ℕ) (t : Obeys text) (path : List ℕ) (ss : List Selector) → Path path ss → Selects text (select ss (root t)) (walk text (ruled text) ss)
+unfolding select
+walk-selects text t path ss p =
+    rw (along-segments ss (root t ∷ [])) at
+    (from-whole text children Fair PlainName children-same (λ s x h. all-fair (children s x) (children-fair s x h)) (root t) ss (path-plain p) (t .fair)
+    (whole text (t .json) (omega (arith, t .shallow))))
+
+-- whatever the names: no broken item
+all-true : (ts : List Json) → All (λ _. Unit {0}) ts
+all-true [] = tt
+all-true (t ∷ ts) = (tt, all-true ts)
+
+each-true : (ss : List Selector) → Each (λ _. Unit {0}) ss
+each-true [] = tt
+each-true (s ∷ ss) = (tt, each-true ss)
+
+selects-number : {text : List ℕ} {ts : List Json} {x : Answer} → Selects text ts x → numberOf x ≢ 27
+selects-number (Selects.one t e) = omega arith
+selects-number (Selects.none h) = λ e. omega (arith, e)
+
+walk-unbroken : (text : List ℕ) (t : Text text) → deep (valueOf (t .derivation)) ≤ 64 → (ss : List Selector) → numberOf (walk text (ruled text) ss) ≢ 27
+walk-unbroken text t d ss =
+    selects-number
+    (from-whole text rawChildren (λ _. Unit {0}) (λ _. Unit {0}) (λ s a v q p. refl) (λ s x h. all-true (rawChildren s x)) (valueOf (t .derivation)) ss
+    (each-true ss) tt (whole text t d))
+
+-- ---- by lent words: the checks in their order, then the walk
+
+value-some : (text : List ℕ) (t : Text text) → 1 ≤ length text
+value-some text t = rw (← e) (some (paddedText (t .derivation)))
+  where
+    e : padBytes (paddedText (t .derivation)) ≡ text
+    e = text-same-bytes (t .derivation) ∙ t .derives
+
+    some : (p : Pad) → 1 ≤ length (padBytes p)
+    some (Pad.pad {w} {w′} b v b′) =
+        let h = value-ends (bareBytes v) 0 v (seg-self (bareBytes v)) in
+        omega (arith, length-append w (bareBytes v ++ w′), length-append (bareBytes v) w′, h .size)
+
+selected : (text words : List ℕ) (levels : ℕ) (path : List ℕ) (ss : List Selector) (t : Obeys text) → Asked text words levels path ss
+    → Selects text (select ss (root t)) (answerOf text words levels path)
+unfolding answerOf
+selected text words levels path ss t x =
+    rw (
+      ne-eqb (length text) 0 (omega (arith, value-some text (t .json))),
+      le-ltb 16777216 (length text) (x .size),
+      le-leb 1 levels (x .range .low),
+      le-leb levels 16 (x .range .high),
+      eq-eqb (length words) (sizeOf levels (length text)) (x .promised .long),
+      le-ltb 1024 (length path) (x .short),
+      reads (x .derived),
+      x .small,
+      le-ltb levels (length ss) (x .enough),
+      walk-promised text levels words ss (x .promised) (x .enough),
+    )
+    (walk-selects text t path ss (x .derived))
+
+unbroken : (text words : List ℕ) (levels : ℕ) (path : List ℕ) (t : Text text) → deep (valueOf (t .derivation)) ≤ 64 → Promise text levels words
+    → numberOf (answerOf text words levels path) ≢ 27
+unfolding answerOf
+unbroken text words levels path t d p =
+    let P : Answer → Type 0 = λ x. numberOf x ≢ 27 in
+    pick-ind P (eqb (length text) 0) (Refused EmptyRecord) _ (λ _. omega arith) (λ _.
+    pick-ind P (ltb 16777216 (length text)) (Refused LongRecord) _ (λ _. omega arith) (λ _.
+    pick-ind P (not (leb 1 levels && leb levels 16)) (Refused BadLevels) _ (λ _. omega arith) (λ _.
+    pick-ind P (not (eqb (length words) (sizeOf levels (length text)))) (Refused BadBuffer) _ (λ _. omega arith) (λ _.
+    pick-ind P (ltb 1024 (length path)) (Refused TooLarge) _ (λ _. omega arith) (λ _. go (readPath path))))))
+  where
+    go : (r : Reading) → numberOf (afterReading text words levels r) ≢ 27
+    go (bad q) = omega arith
+    go (good ss) =
+        pick-ind (λ x. numberOf x ≢ 27) (large ss) (Refused TooLarge) _ (λ _. omega arith) (λ _.
+        pick-ind (λ x. numberOf x ≢ 27) (ltb levels (length ss)) (Refused TooDeep) _ (λ _. omega arith) (λ h.
+        rw (walk-promised text levels words ss p (ltb-false levels (length ss) h)) (walk-unbroken text t d ss)))
+
+-- demand 2, of paths
+pub claim : Claim
+claim = record { selected = selected; unbroken = unbroken; taken = text-sound }

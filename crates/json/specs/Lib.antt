@@ -1,0 +1,4 @@
+pub mod Grammar
+pub mod Select
+pub mod Texts
+pub mod Demand2

@@ -1,0 +1,151 @@
+-- A found part has at least one byte and lies inside the record. By the tests of the definitions, one after another.
+use Prim.Native.Nat.{ℕ, zero, suc, _+_, _-_, _≤_, _<_}
+use mathlib.Core.Bool.{Bool, not, _&&_}
+use mathlib.Core.List.{List, [], _∷_}
+use native.Mathlib.Omega.{arith}
+use lib.Dec.{eqb, ltb, leb}
+use lib.ListN.{length}
+use borrow.Author.Tests.{ltb-true}
+use Rattle.rules.specs.Word.{pick}
+use Rattle.rules.specs.Layout.{sizeOf, widthOf}
+use Rattle.query.specs.Places.{byteIn, between, firstAt}
+use Rattle.query.specs.Grammar.{Selector, name, number}
+use Rattle.query.specs.Path.{Reading, good, bad, readPath, large}
+use Rattle.query.specs.Items.{Bits, lent, solid, trimStart, trimEnd, valueAt, same, quoted, keyed, itemAt, orElse, itemsIn, items, itemNo}
+use Rattle.query.specs.Walk.{onFound, ofItem, framed, filled, nameStep, numberStep, stepBy, walkFrom, walk}
+use Rattle.query.specs.Answers.{afterReading, answerOf}
+use Rattle.query.specs.declared.types.Cause.the-variants.{NoColon, BadName, EmptyValue}
+use Rattle.query.specs.declared.types.Refusal.{Refusal}
+use Rattle.query.specs.declared.types.Refusal.the-variants.{EmptyRecord, LongRecord, BadLevels, BadBuffer, TooLarge, TooDeep, NoName, NoNumber, Broken}
+use Rattle.query.specs.declared.types.Answer.{Answer}
+use Rattle.query.specs.declared.types.Answer.the-variants.{Found, Refused}
+use Rattle.query.specs.declared.items.Item.{Item}
+use Rattle.query.specs.declared.items.Item.the-variants as Items
+use Rattle.query.proofs.PlaceLaws.{pick-ind, first-ge, first-le, last-bounds}
+use Rattle.query.proofs.ItemLaws.{framed-long}
+
+-- an item, and an answer, in the first n bytes
+abbrev pub WithinItem : ℕ → Item → Type 0
+WithinItem n (Items.Found s e) = (s < e) × (e ≤ n)
+WithinItem n Items.Other = Unit {0}
+WithinItem n (Items.Broken why) = Unit {0}
+
+abbrev pub Within : ℕ → Answer → Type 0
+Within n r = onFound r (λ s e. (s < e) × (e ≤ n)) (λ why. Unit {0})
+
+-- ---- items
+
+pub value-in : (byte : ℕ → ℕ) (a e n : ℕ) → a ≤ e → e ≤ n → WithinItem n (valueAt byte a e)
+unfolding valueAt
+value-in byte a e n h l =
+    pick-ind (WithinItem n) (ltb (trimStart byte a e) (trimEnd byte a e)) _ _
+    (λ q. (ltb-true _ _ q, omega (arith, last-bounds (solid byte) (trimStart byte a e) e (first-le (solid byte) a e h))))
+    (λ _. tt)
+
+keyed-in : (byte : ℕ → ℕ) (quote : ℕ → Bool) (m : List ℕ) (a d e n : ℕ) → d < e → e ≤ n → WithinItem n (keyed byte quote m a d e)
+unfolding keyed
+keyed-in byte quote m a d e n h l =
+    let p = trimStart byte a d in
+    let q = trimEnd byte a d in
+    let b = same (between byte (p + 1) (q - 1)) m in
+    pick-ind (WithinItem n) (quoted quote p q) (pick b (valueAt byte (d + 1) e) Items.Other) (Items.Broken BadName)
+    (λ _. pick-ind (WithinItem n) b (valueAt byte (d + 1) e) Items.Other (λ _. value-in byte (d + 1) e n (omega arith) l) (λ _. tt))
+    (λ _. tt)
+
+item-in : (byte : ℕ → ℕ) (bits : Bits) (k : ℕ) (m : List ℕ) (a e n : ℕ) → e ≤ n → WithinItem n (itemAt byte bits k m a e)
+unfolding itemAt
+item-in byte bits k m a e n h =
+    let d = firstAt (bits .colon k) a e in
+    pick-ind (WithinItem n) (ltb d e) (keyed byte (bits .quote) m a d e) (Items.Broken NoColon)
+    (λ q. keyed-in byte (bits .quote) m a d e n (ltb-true d e q) h)
+    (λ _. tt)
+
+orElse-in : (n : ℕ) (it later : Item) → WithinItem n it → WithinItem n later → WithinItem n (orElse it later)
+orElse-in n (Items.Found s e) later i j = i
+orElse-in n Items.Other later i j = j
+orElse-in n (Items.Broken why) later i j = tt
+
+items-in : (item : ℕ → ℕ → Item) (comma : ℕ → Bool) (n : ℕ) → ((a e : ℕ) → e ≤ n → WithinItem n (item a e))
+    → (c a e : ℕ) → a ≤ e → e ≤ n → WithinItem n (itemsIn item comma c a e)
+unfolding itemsIn
+items-in item comma n each zero a e h l = tt
+items-in item comma n each (suc c) a e h l =
+    let d = firstAt comma a e in
+    orElse-in n (item a d) (pick (ltb d e) (itemsIn item comma c (d + 1) e) Items.Other) (each a d (omega (arith, first-le comma a e h)))
+    (pick-ind (WithinItem n) (ltb d e) _ _ (λ q. items-in item comma n each c (d + 1) e (omega (arith, ltb-true d e q)) l) (λ _. tt))
+
+itemNo-in : (byte : ℕ → ℕ) (comma : ℕ → Bool) (n m a e : ℕ) → a ≤ e → e ≤ n → WithinItem n (itemNo byte comma m a e)
+unfolding itemNo
+itemNo-in byte comma n zero a e h l = value-in byte a (firstAt comma a e) n (first-ge comma a e h) (omega (arith, first-le comma a e h))
+itemNo-in byte comma n (suc m) a e h l =
+    pick-ind (WithinItem n) (ltb (firstAt comma a e) e) _ _ (λ q. itemNo-in byte comma n m (firstAt comma a e + 1) e (omega (arith, ltb-true (firstAt comma a e) e q)) l) (λ _. tt)
+
+-- ---- steps
+
+pub of-in : (n : ℕ) (none : Refusal) (it : Item) → WithinItem n it → Within n (ofItem none it)
+of-in n none (Items.Found s e) i = i
+of-in n none Items.Other i = tt
+of-in n none (Items.Broken why) i = tt
+
+module _ (byte : ℕ → ℕ) (bits : Bits) (n : ℕ) where
+  pub name-in : (k : ℕ) (m : List ℕ) (a e : ℕ) → e ≤ n → Within n (nameStep byte bits k m a e)
+  unfolding nameStep items
+  name-in k m a e h =
+      pick-ind (Within n) (framed byte 123 125 a e) _ _
+      (λ q. let l = framed-long byte 123 125 a e q in
+      pick-ind (Within n) (filled byte a e) _ _
+      (λ _. of-in n NoName (items (itemAt byte bits k m) (bits .comma k) (a + 1) (e - 1))
+      (items-in (itemAt byte bits k m) (bits .comma k) n (λ b f i. item-in byte bits k m b f n i) (suc (e - 1 - (a + 1))) (a + 1) (e - 1) (omega arith) (omega arith)))
+      (λ _. tt))
+      (λ _. tt)
+
+  pub number-in : (k m a e : ℕ) → e ≤ n → Within n (numberStep byte bits k m a e)
+  unfolding numberStep
+  number-in k m a e h =
+      pick-ind (Within n) (framed byte 91 93 a e) _ _
+      (λ q. let l = framed-long byte 91 93 a e q in
+      pick-ind (Within n) (filled byte a e) _ _
+      (λ _. of-in n NoNumber (itemNo byte (bits .comma k) m (a + 1) (e - 1)) (itemNo-in byte (bits .comma k) n m (a + 1) (e - 1) (omega arith) (omega arith)))
+      (λ _. tt))
+      (λ _. tt)
+
+  pub step-in : (k : ℕ) (s : Selector) (a e : ℕ) → e ≤ n → Within n (stepBy byte bits k s a e)
+  step-in k (name m) a e h = name-in k m a e h
+  step-in k (number m) a e h = number-in k m a e h
+
+  on-in : (r : Answer) (go : ℕ → ℕ → Answer) → Within n r → ((b f : ℕ) → b < f → f ≤ n → Within n (go b f)) → Within n (onFound r go Refused)
+  on-in (Found b f) go i h = h b f (i .0) (i .1)
+  on-in (Refused why) go i h = tt
+
+  walkFrom-in : (k : ℕ) (ss : List Selector) (a e : ℕ) → a < e → e ≤ n → Within n (walkFrom byte bits k ss a e)
+  unfolding walkFrom
+  walkFrom-in k [] a e l h = (l, h)
+  walkFrom-in k (s ∷ ss) a e l h =
+      on-in (stepBy byte bits k s a e) (λ b f. walkFrom byte bits (k + 1) ss b f) (step-in k s a e h) (λ b f i j. walkFrom-in (k + 1) ss b f i j)
+
+-- ---- the walk, and the answer
+
+pub walk-in : (text : List ℕ) (bits : Bits) (ss : List Selector) → Within (length text) (walk text bits ss)
+unfolding walk
+walk-in text bits ss =
+    let n = length text in
+    on-in (byteIn text) bits n (ofItem (Broken EmptyValue) (valueAt (byteIn text) 0 n)) (λ a e. walkFrom (byteIn text) bits 1 ss a e)
+    (of-in n (Broken EmptyValue) (valueAt (byteIn text) 0 n) (value-in (byteIn text) 0 n n (omega arith) (omega arith)))
+    (λ b f i j. walkFrom-in (byteIn text) bits n 1 ss b f i j)
+
+-- a found part "has at least one byte", and lies inside the record
+pub answer-in : (text words : List ℕ) (levels : ℕ) (path : List ℕ) → Within (length text) (answerOf text words levels path)
+unfolding answerOf
+answer-in text words levels path =
+    let P = Within (length text) in
+    pick-ind P (eqb (length text) 0) (Refused EmptyRecord) _ (λ _. tt) (λ _.
+    pick-ind P (ltb 16777216 (length text)) (Refused LongRecord) _ (λ _. tt) (λ _.
+    pick-ind P (not (leb 1 levels && leb levels 16)) (Refused BadLevels) _ (λ _. tt) (λ _.
+    pick-ind P (not (eqb (length words) (sizeOf levels (length text)))) (Refused BadBuffer) _ (λ _. tt) (λ _.
+    pick-ind P (ltb 1024 (length path)) (Refused TooLarge) _ (λ _. tt) (λ _. go (readPath path))))))
+  where
+    go : (r : Reading) → Within (length text) (afterReading text words levels r)
+    go (bad p) = tt
+    go (good ss) =
+        pick-ind (Within (length text)) (large ss) (Refused TooLarge) _ (λ _. tt) (λ _.
+        pick-ind (Within (length text)) (ltb levels (length ss)) (Refused TooDeep) _ (λ _. tt) (λ _. walk-in text (lent words levels (widthOf (length text))) ss))

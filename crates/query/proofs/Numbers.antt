@@ -1,0 +1,214 @@
+-- Each number exactly under its condition, and in its order: what a query answers is what is given, and nothing else is. By the tests of the definition,
+-- one after another, and the exactness of the path's reading and of the walk.
+use Prim.Native.Nat.{ℕ, _≤_, _<_}
+use mathlib.Core.Path.{_≡_, refl, ap, _∙_, subst}
+use mathlib.Core.Bool.{Bool, true, false, not, _&&_}
+use mathlib.Core.List.{List}
+use mathlib.Core.Logic.{_⊎_, inl, inr, ⊎-elim}
+use native.Mathlib.Omega.{arith}
+use lib.Dec.{eqb, ltb, leb}
+use lib.ListN.{length}
+use borrow.Author.Tests.{not-true, not-false, ltb-true, ltb-false, leb-true, leb-false, eqb-true, eqb-false, lt-ltb, le-ltb, le-leb, lt-leb, eq-eqb, ne-eqb}
+use Rattle.rules.specs.Word.{pick}
+use Rattle.rules.specs.Layout.{widthOf, sizeOf}
+use Rattle.query.specs.Grammar.{Selector, Path, RefusedAt}
+use Rattle.query.specs.Path.{Reading, good, bad, readPath, large}
+use Rattle.query.specs.Items.{lent}
+use Rattle.query.specs.Walk.{walk}
+use Rattle.query.specs.Answers.{refusalNumber, numberOf, placeOf, afterReading, answerOf}
+use Rattle.query.specs.Conditions.{Exactly, Sized, Levelled, Lendable, Brief, Walkable, Given, empty, long, levels-out, other-buffer, long-path, no-path, large-number, deep, walked, Walks, Halts, WalkStops}
+use Rattle.query.specs.declared.types.Cause.{Cause}
+use Rattle.query.specs.declared.types.Refusal.{Refusal}
+use Rattle.query.specs.declared.types.Refusal.the-variants.{EmptyRecord, LongRecord, BadLevels, BadBuffer, BadPath, TooLarge, TooDeep, NotObject, NotArray, NoName, NoNumber, Broken}
+use Rattle.query.specs.declared.types.Answer.{Answer}
+use Rattle.query.specs.declared.types.Answer.the-variants.{Found, Refused}
+use Rattle.query.proofs.PlaceLaws.{pick-ind}
+use Rattle.query.proofs.Reading.{reads, read-is-path, refused-is-place, place-is-refused}
+use Rattle.query.proofs.Stops.{walk-stops, walk-number}
+
+module _ (text words : List ℕ) (levels : ℕ) (path : List ℕ) where
+  -- ---- what is answered is given
+
+  levels-of : not (leb 1 levels && leb levels 16) ≡ false → (1 ≤ levels) × (levels ≤ 16)
+  levels-of e = go (leb 1 levels) (leb levels 16) refl refl e
+    where
+      go : (a b : Bool) → leb 1 levels ≡ a → leb levels 16 ≡ b → not (a && b) ≡ false → (1 ≤ levels) × (levels ≤ 16)
+      go true true p q e = (leb-true 1 levels p, leb-true levels 16 q)
+      go true false p q e = absurd (let z : _≡_ {A = ℕ} 0 1 = cc in omega arith)
+      go false b p q e = absurd (let z : _≡_ {A = ℕ} 0 1 = cc in omega arith)
+
+  levels-not : not (leb 1 levels && leb levels 16) ≡ true → (levels ≡ 0) ⊎ (16 < levels)
+  levels-not e = go (leb 1 levels) (leb levels 16) refl refl e
+    where
+      go : (a b : Bool) → leb 1 levels ≡ a → leb levels 16 ≡ b → not (a && b) ≡ true → (levels ≡ 0) ⊎ (16 < levels)
+      go true true p q e = absurd (let z : _≡_ {A = ℕ} 0 1 = cc in omega arith)
+      go true false p q e = inr (leb-false levels 16 q)
+      go false b p q e = inl (omega (arith, leb-false 1 levels p))
+
+  reading-given : Brief text words levels path → (r : Reading) → readPath path ≡ r → Given text words levels path (afterReading text words levels r)
+  reading-given h (bad p) e = no-path h (refused-is-place path p e)
+  reading-given h (good ss) e =
+      let w = read-is-path path ss e in
+      pick-ind (Given text words levels path) (large ss) (Refused TooLarge) _ (λ l. large-number h w l)
+      (λ l. pick-ind (Given text words levels path) (ltb levels (length ss)) (Refused TooDeep) _ (λ d. deep h w l (ltb-true levels (length ss) d))
+      (λ d. walked (record { brief = h; parsed = w; small = l; few = ltb-false levels (length ss) d }) refl))
+
+  pub answer-given : Given text words levels path (answerOf text words levels path)
+  unfolding answerOf
+  answer-given =
+      let P = Given text words levels path in
+      pick-ind P (eqb (length text) 0) (Refused EmptyRecord) _ (λ e. empty (eqb-true (length text) 0 e)) (λ e.
+      let some = eqb-false (length text) 0 e in
+      pick-ind P (ltb 16777216 (length text)) (Refused LongRecord) _ (λ f. long (ltb-true 16777216 (length text) f)) (λ f.
+      let s : Sized text = record { some = omega arith; short = ltb-false 16777216 (length text) f } in
+      pick-ind P (not (leb 1 levels && leb levels 16)) (Refused BadLevels) _ (λ g. levels-out s (levels-not g)) (λ g.
+      let l : Levelled text levels = record { sized = s; low = levels-of g .0; high = levels-of g .1 } in
+      pick-ind P (not (eqb (length words) (sizeOf levels (length text)))) (Refused BadBuffer) _ (λ h. other-buffer l (eqb-false _ _ (not-true _ h))) (λ h.
+      let k : Lendable text words levels = record { levelled = l; long = eqb-true _ _ (not-false _ h) } in
+      pick-ind P (ltb 1024 (length path)) (Refused TooLarge) _ (λ j. long-path k (ltb-true 1024 (length path) j)) (λ j.
+      reading-given (record { lendable = k; short = ltb-false 1024 (length path) j }) (readPath path) refl)))))
+
+  -- ---- what is given is answered
+
+  past-sized : Sized text → answerOf text words levels path
+      ≡ pick (not (leb 1 levels && leb levels 16)) (Refused BadLevels) (pick (not (eqb (length words) (sizeOf levels (length text)))) (Refused BadBuffer)
+      (pick (ltb 1024 (length path)) (Refused TooLarge) (afterReading text words levels (readPath path))))
+  unfolding answerOf
+  past-sized s = rw (ne-eqb (length text) 0 (λ e. omega (arith, s .some)), le-ltb 16777216 (length text) (s .short))
+
+  past-levelled : Levelled text levels → answerOf text words levels path
+      ≡ pick (not (eqb (length words) (sizeOf levels (length text)))) (Refused BadBuffer) (pick (ltb 1024 (length path)) (Refused TooLarge) (afterReading text words levels (readPath path)))
+  past-levelled l = past-sized (l .sized) ∙ rw (le-leb 1 levels (l .low), le-leb levels 16 (l .high))
+
+  past-lendable : Lendable text words levels → answerOf text words levels path ≡ pick (ltb 1024 (length path)) (Refused TooLarge) (afterReading text words levels (readPath path))
+  past-lendable k = past-levelled (k .levelled) ∙ rw (eq-eqb (length words) (sizeOf levels (length text)) (k .long))
+
+  past-brief : {r : Reading} → Brief text words levels path → readPath path ≡ r → answerOf text words levels path ≡ afterReading text words levels r
+  past-brief h e = past-lendable (h .lendable) ∙ rw (le-ltb 1024 (length path) (h .short), e)
+
+  pub given-answer : {r : Answer} → Given text words levels path r → answerOf text words levels path ≡ r
+  unfolding answerOf
+  given-answer (empty e) = rw (eq-eqb (length text) 0 e)
+  given-answer (long l) = rw (ne-eqb (length text) 0 (λ e. omega arith), lt-ltb 16777216 (length text) l)
+  given-answer (levels-out s l) = past-sized s ∙ ⊎-elim (λ e. rw (lt-leb 1 levels (omega arith))) (λ m. rw (le-leb 1 levels (omega arith), lt-leb levels 16 m)) l
+  given-answer (other-buffer l n) = past-levelled l ∙ rw (ne-eqb (length words) (sizeOf levels (length text)) n)
+  given-answer (long-path k l) = past-lendable k ∙ rw (lt-ltb 1024 (length path) l)
+  given-answer (no-path {p} h n) = past-brief h (place-is-refused path p n)
+  given-answer (large-number h w l) = past-brief h (reads w) ∙ rw l
+  given-answer (deep {ss} h w l d) = past-brief h (reads w) ∙ rw (l, lt-ltb levels (length ss) d)
+  given-answer (walked {r} {ss} w e) = past-brief (w .brief) (reads (w .parsed)) ∙ rw (w .small, le-ltb levels (length ss) (w .few)) e
+
+  -- a query gives an answer exactly where it is given
+  pub exactly : (r : Answer) → Exactly (answerOf text words levels path ≡ r) (Given text words levels path r)
+  exactly r = (λ e. subst (Given text words levels path) e answer-given, given-answer)
+
+  -- ---- by number
+
+  -- the condition of each number
+  abbrev Condition : ℕ → Type 0
+  Condition n =
+      pick (eqb n 0) ((s : ℕ) × (e : ℕ) × Walks text words levels path (Found s e))
+      (pick (eqb n 1) (length text ≡ 0)
+      (pick (eqb n 2) (16777216 < length text)
+      (pick (eqb n 3) (Sized text × ((levels ≡ 0) ⊎ (16 < levels)))
+      (pick (eqb n 4) (Levelled text levels × (length words ≡ sizeOf levels (length text) → ⊥))
+      (pick (eqb n 20) ((p : ℕ) × Brief text words levels path × RefusedAt path p)
+      (pick (eqb n 21) ((Lendable text words levels × (1024 < length path)) ⊎ ((ss : List Selector) × Brief text words levels path × Path path ss × (large ss ≡ true)))
+      (pick (eqb n 22) ((ss : List Selector) × Brief text words levels path × Path path ss × (large ss ≡ false) × (levels < length ss))
+      (pick (eqb n 23) (Halts text words levels path NotObject)
+      (pick (eqb n 24) (Halts text words levels path NotArray)
+      (pick (eqb n 25) (Halts text words levels path NoName)
+      (pick (eqb n 26) (Halts text words levels path NoNumber) ((why : Cause) × Halts text words levels path (Broken why)))))))))))))
+
+  halted : {ss : List Selector} → Walkable text words levels path ss → (why : Refusal) → WalkStops text (lent words levels (widthOf (length text))) ss why → Condition (refusalNumber why)
+  halted w EmptyRecord h = absurd (omega (arith, walk-number h))
+  halted w LongRecord h = absurd (omega (arith, walk-number h))
+  halted w BadLevels h = absurd (omega (arith, walk-number h))
+  halted w BadBuffer h = absurd (omega (arith, walk-number h))
+  halted w (BadPath p) h = absurd (omega (arith, walk-number h))
+  halted w TooLarge h = absurd (omega (arith, walk-number h))
+  halted w TooDeep h = absurd (omega (arith, walk-number h))
+  halted {ss} w NotObject h = record { selectors = ss; walkable = w; stops = h }
+  halted {ss} w NotArray h = record { selectors = ss; walkable = w; stops = h }
+  halted {ss} w NoName h = record { selectors = ss; walkable = w; stops = h }
+  halted {ss} w NoNumber h = record { selectors = ss; walkable = w; stops = h }
+  halted {ss} w (Broken why) h = (why, record { selectors = ss; walkable = w; stops = h })
+
+  walked-number : {ss : List Selector} → Walkable text words levels path ss → (r : Answer) → walk text (lent words levels (widthOf (length text))) ss ≡ r → Condition (numberOf r)
+  walked-number {ss} w (Found s e) q = (s, e, record { selectors = ss; walkable = w; gives = q })
+  walked-number {ss} w (Refused why) q = halted w why (walk-stops text (lent words levels (widthOf (length text))) ss why .0 q)
+
+  numbered : {r : Answer} → Given text words levels path r → Condition (numberOf r)
+  numbered (empty e) = e
+  numbered (long l) = l
+  numbered (levels-out s l) = (s, l)
+  numbered (other-buffer l n) = (l, n)
+  numbered (long-path k l) = inl (k, l)
+  numbered (no-path {p} h n) = (p, h, n)
+  numbered (large-number {ss} h w l) = inr (ss, h, w, l)
+  numbered (deep {ss} h w l d) = (ss, h, w, l, d)
+  numbered (walked {r} w e) = walked-number w r e
+
+  because : {n : ℕ} → numberOf (answerOf text words levels path) ≡ n → Condition n
+  because e = subst Condition e (numbered answer-given)
+
+  so : {r : Answer} → Given text words levels path r → numberOf (answerOf text words levels path) ≡ numberOf r
+  so g = ap numberOf (given-answer g)
+
+  halts-so : {why : Refusal} → Halts text words levels path why → numberOf (answerOf text words levels path) ≡ refusalNumber why
+  halts-so {why} h = so (walked {r = Refused why} (h .walkable) (walk-stops text (lent words levels (widthOf (length text))) (h .selectors) why .1 (h .stops)))
+
+  -- done
+  pub number-0 : Exactly (numberOf (answerOf text words levels path) ≡ 0) ((s : ℕ) × (e : ℕ) × Walks text words levels path (Found s e))
+  number-0 = (λ e. because e, λ h. so (walked {r = Found (h .0) (h .1)} (h .2 .walkable) (h .2 .gives)))
+
+  -- "record empty"
+  pub number-1 : Exactly (numberOf (answerOf text words levels path) ≡ 1) (length text ≡ 0)
+  number-1 = (λ e. because e, λ h. so (empty h))
+
+  -- "record above 16,777,216 bytes"
+  pub number-2 : Exactly (numberOf (answerOf text words levels path) ≡ 2) (16777216 < length text)
+  number-2 = (λ e. because e, λ h. so (long h))
+
+  -- "L not in 1..16"
+  pub number-3 : Exactly (numberOf (answerOf text words levels path) ≡ 3) (Sized text × ((levels ≡ 0) ⊎ (16 < levels)))
+  number-3 = (λ e. because e, λ h. so (levels-out (h .0) (h .1)))
+
+  -- "word buffer not (2+2L)·W long"
+  pub number-4 : Exactly (numberOf (answerOf text words levels path) ≡ 4) (Levelled text levels × (length words ≡ sizeOf levels (length text) → ⊥))
+  number-4 = (λ e. because e, λ h. so (other-buffer (h .0) (h .1)))
+
+  -- "path not in the grammar"
+  pub number-20 : Exactly (numberOf (answerOf text words levels path) ≡ 20) ((p : ℕ) × Brief text words levels path × RefusedAt path p)
+  number-20 = (λ e. because e, λ h. so (no-path (h .1) (h .2)))
+
+  -- with its place
+  pub place-20 : (p : ℕ) → Brief text words levels path → RefusedAt path p → placeOf (answerOf text words levels path) ≡ p
+  place-20 p h n = ap placeOf (given-answer (no-path h n))
+
+  -- "path above 1,024 bytes, or a number above 16,777,215"
+  pub number-21 : Exactly (numberOf (answerOf text words levels path) ≡ 21)
+      ((Lendable text words levels × (1024 < length path)) ⊎ ((ss : List Selector) × Brief text words levels path × Path path ss × (large ss ≡ true)))
+  number-21 = (λ e. because e, ⊎-elim (λ h. so (long-path (h .0) (h .1))) (λ h. so (large-number (h .1) (h .2) (h .3))))
+
+  -- "more steps than L"
+  pub number-22 : Exactly (numberOf (answerOf text words levels path) ≡ 22) ((ss : List Selector) × Brief text words levels path × Path path ss × (large ss ≡ false) × (levels < length ss))
+  number-22 = (λ e. because e, λ h. so (deep (h .1) (h .2) (h .3) (h .4)))
+
+  -- "value is not an object / not an array"
+  pub number-23 : Exactly (numberOf (answerOf text words levels path) ≡ 23) (Halts text words levels path NotObject)
+  number-23 = (λ e. because e, λ h. halts-so h)
+
+  pub number-24 : Exactly (numberOf (answerOf text words levels path) ≡ 24) (Halts text words levels path NotArray)
+  number-24 = (λ e. because e, λ h. halts-so h)
+
+  -- "no such name / no such number"
+  pub number-25 : Exactly (numberOf (answerOf text words levels path) ≡ 25) (Halts text words levels path NoName)
+  number-25 = (λ e. because e, λ h. halts-so h)
+
+  pub number-26 : Exactly (numberOf (answerOf text words levels path) ≡ 26) (Halts text words levels path NoNumber)
+  number-26 = (λ e. because e, λ h. halts-so h)
+
+  -- "broken item", whatever its cause
+  pub number-27 : Exactly (numberOf (answerOf text words levels path) ≡ 27) ((why : Cause) × Halts text words levels path (Broken why))
+  number-27 = (λ e. because e, λ h. halts-so (h .1))

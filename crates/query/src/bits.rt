@@ -1,0 +1,121 @@
+// The bits of the lent words, a word at a time. `address_of` alone knows where a word lies.
+ghost use mathlib.Core.Path.{_≡_};
+ghost use Prim.Native.Nat.{_+_, _*_, _<_, _≤_};
+ghost use lib.ListN.{getD};
+ghost use Rattle.rules.specs.Layout.{address, bitIn};
+ghost use Rattle.query.specs.Places.{firstAt, nthAt};
+ghost use Rattle.query.specs.Helpers.{mapped, Readable, Long};
+
+// How many levels the lent words have, and how many words each bitmap.
+pub struct Shape {
+    pub levels: usize,
+    pub width: usize,
+}
+
+// A bitmap that a walk reads; colons and commas have their level.
+pub enum Map {
+    Quotes,
+    Colons(usize),
+    Commas(usize),
+}
+
+fn address_of(s: Shape, m: Map, w: usize) -> usize
+    requires { ⌜ Readable s m (64 * w + 64) ⌝ }
+    ensures { λ r. ⌜ r ≡ address (s .levels) (s .width) (mapped m) w ⌝ }
+{
+    match m {
+        Map::Quotes => w,
+        Map::Colons(k) => 2 * k * s.width + w,
+        Map::Commas(k) => (2 * k + 1) * s.width + w,
+    }
+}
+
+pub fn word(words: &[u64], s: Shape, m: Map, w: usize) -> u64
+    requires { ⌜ Long (now words) s ⌝ }
+    requires { ⌜ Readable s m (64 * w + 64) ⌝ }
+    ensures { λ r. ⌜ r ≡ getD (now (words .entry)) (address (s .levels) (s .width) (mapped m) w) 0 ⌝ }
+{
+    let at = address_of(s, m, w);
+    words[at]
+}
+
+// The bit of place p.
+pub fn bit(words: &[u64], s: Shape, m: Map, p: usize) -> bool
+    requires { ⌜ Long (now words) s ⌝ }
+    requires { ⌜ Readable s m (p + 1) ⌝ }
+    ensures { λ r. ⌜ r ≡ bitIn (now (words .entry)) (s .levels) (s .width) (mapped m) p ⌝ }
+{
+    let x = word(words, s, m, p / 64);
+    (x >> (p % 64)) % 2 == 1
+}
+
+// The first place at or after a and before e whose bit is set, or e.
+pub fn next_bit(words: &[u64], s: Shape, m: Map, a: usize, e: usize) -> usize
+    requires { ⌜ a ≤ e ⌝ }
+    requires { ⌜ Long (now words) s ⌝ }
+    requires { ⌜ Readable s m e ⌝ }
+    ensures { λ r. ⌜ r ≡ firstAt (bitIn (now (words .entry)) (s .levels) (s .width) (mapped m)) a e ⌝ }
+{
+    if e <= a {
+        return a;
+    }
+    let mut w = a / 64;
+    let mut at = a;
+    let mut x = word(words, s, m, w) >> (a % 64);
+    while x == 0 {
+        w = w + 1;
+        at = w * 64;
+        if e <= at {
+            return e;
+        }
+        x = word(words, s, m, w);
+    }
+    let p = at + (u64::trailing_zeros(x) as usize);
+    if p < e { p } else { e }
+}
+
+// The place of the set bit with this number, from 0, at or after a and before e, or e: bit after bit.
+fn bit_by_bit(words: &[u64], s: Shape, m: Map, number: usize, a: usize, e: usize) -> usize
+    requires { ⌜ a ≤ e ⌝ }
+    requires { ⌜ Long (now words) s ⌝ }
+    requires { ⌜ Readable s m e ⌝ }
+    ensures { λ r. ⌜ r ≡ nthAt (bitIn (now (words .entry)) (s .levels) (s .width) (mapped m)) number a e ⌝ }
+{
+    let mut left = number;
+    let mut at = a;
+    while 0 < left {
+        let p = next_bit(words, s, m, at, e);
+        if e <= p {
+            return e;
+        }
+        at = p + 1;
+        left -= 1;
+    }
+    next_bit(words, s, m, at, e)
+}
+
+// The same, and whole words are passed over by their count.
+pub fn nth_bit(words: &[u64], s: Shape, m: Map, number: usize, a: usize, e: usize) -> usize
+    requires { ⌜ a ≤ e ⌝ }
+    requires { ⌜ Long (now words) s ⌝ }
+    requires { ⌜ Readable s m e ⌝ }
+    ensures { λ r. ⌜ r ≡ nthAt (bitIn (now (words .entry)) (s .levels) (s .width) (mapped m)) number a e ⌝ }
+{
+    if e <= a {
+        return e;
+    }
+    let mut left = number;
+    let mut w = a / 64;
+    let mut at = a;
+    let mut ones = u64::count_ones(word(words, s, m, w) >> (a % 64)) as usize;
+    while ones <= left {
+        left -= ones;
+        w += 1;
+        at = w * 64;
+        if e <= at {
+            return e;
+        }
+        ones = u64::count_ones(word(words, s, m, w)) as usize;
+    }
+    bit_by_bit(words, s, m, left, at, e)
+}

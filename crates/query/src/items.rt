@@ -1,0 +1,207 @@
+// Items, cut at the commas of a level: by name, and by number.
+use crate::bits;
+use crate::bits::Map;
+use crate::bits::Shape;
+use crate::blanks;
+use crate::types::Cause;
+ghost use mathlib.Core.Path.{_≡_};
+ghost use Prim.Native.Nat.{_+_, _≤_, _<_};
+ghost use lib.ListN.{length};
+ghost use Rattle.rules.specs.Layout.{bitIn, quotes, commas};
+ghost use Rattle.query.specs.Helpers.{Lent, Readable, Long};
+ghost use Rattle.query.specs.Places.{byteIn, between};
+ghost use Rattle.query.specs.Items.{lent, valueAt, same, quoted, keyed, itemAt, items, itemNo};
+
+// What an item is to a step.
+pub enum Item {
+    // The value that was asked for, without end blanks: at least one byte.
+    Found { start: usize, end: usize },
+    // Not the one.
+    Other,
+    Broken(Cause),
+}
+
+// The value from a to e without end blanks.
+pub fn value_at(text: &[u8], a: usize, e: usize) -> Item
+    requires { ⌜ (a ≤ e) × (e ≤ length (now text)) ⌝ }
+    ensures { λ r. ⌜ r ≡ valueAt (byteIn (now (text .entry))) a e ⌝ }
+{
+    let start = blanks::skip_blanks(text, a, e);
+    let end = blanks::drop_blanks(text, start, e);
+    if start < end {
+        Item::Found { start, end }
+    } else {
+        Item::Broken(Cause::EmptyValue)
+    }
+}
+
+// The bytes p to q of the record are the bytes b to f of the path.
+fn same_name(text: &[u8], p: usize, q: usize, path: &[u8], b: usize, f: usize) -> bool
+    requires { ⌜ (p ≤ q) × (q ≤ length (now text)) × (b ≤ f) × (f ≤ length (now path)) ⌝ }
+    ensures { λ r. ⌜ r ≡ same (between (byteIn (now (text .entry))) p q) (between (byteIn (now (path .entry))) b f) ⌝ }
+{
+    let n = f - b;
+    if q - p != n {
+        return false;
+    }
+    let mut k = 0;
+    while k < n {
+        if text[p + k] != path[b + k] {
+            return false;
+        }
+        k += 1;
+    }
+    true
+}
+
+// From p to q: a quote bit, none or more bytes without one, a quote bit.
+fn is_quoted(words: &[u64], s: Shape, p: usize, q: usize) -> bool
+    requires { ⌜ p ≤ q ⌝ }
+    requires { ⌜ Long (now words) s ⌝ }
+    requires { ⌜ Readable s Map.Quotes q ⌝ }
+    ensures { λ r. ⌜ r ≡ quoted (bitIn (now (words .entry)) (s .levels) (s .width) quotes) p q ⌝ }
+{
+    if q <= p + 1 {
+        return false;
+    }
+    if !bits::bit(words, s, Map::Quotes, p) {
+        return false;
+    }
+    let c = bits::next_bit(words, s, Map::Quotes, p + 1, q);
+    c + 1 == q
+}
+
+// An item from a to e whose first colon is at d, for the name b to f of the path.
+fn keyed_item(
+    text: &[u8],
+    words: &[u64],
+    s: Shape,
+    path: &[u8],
+    b: usize,
+    f: usize,
+    a: usize,
+    d: usize,
+    e: usize,
+) -> Item
+    requires { ⌜ Lent (now text) (now words) s ⌝ }
+    requires { ⌜ (a ≤ d) × (d < e) × (e ≤ length (now text)) × (b ≤ f) × (f ≤ length (now path)) ⌝ }
+    ensures { λ r. ⌜ r ≡ keyed (byteIn (now (text .entry))) (bitIn (now (words .entry)) (s .levels) (s .width) quotes) (between (byteIn (now (path .entry))) b f) a d e ⌝ }
+{
+    let p = blanks::skip_blanks(text, a, d);
+    let q = blanks::drop_blanks(text, p, d);
+    if !is_quoted(words, s, p, q) {
+        return Item::Broken(Cause::BadName);
+    }
+    if same_name(text, p + 1, q - 1, path, b, f) {
+        value_at(text, d + 1, e)
+    } else {
+        Item::Other
+    }
+}
+
+// An item of level k from a to e.
+fn item_of(
+    text: &[u8],
+    words: &[u64],
+    s: Shape,
+    k: usize,
+    path: &[u8],
+    b: usize,
+    f: usize,
+    a: usize,
+    e: usize,
+) -> Item
+    requires { ⌜ Lent (now text) (now words) s ⌝ }
+    requires { ⌜ (1 ≤ k) × (k ≤ s .levels) ⌝ }
+    requires { ⌜ (a ≤ e) × (e ≤ length (now text)) × (b ≤ f) × (f ≤ length (now path)) ⌝ }
+    ensures { λ r. ⌜ r ≡ itemAt (byteIn (now (text .entry))) (lent (now (words .entry)) (s .levels) (s .width)) k (between (byteIn (now (path .entry))) b f) a e ⌝ }
+{
+    let d = bits::next_bit(words, s, Map::Colons(k), a, e);
+    if d < e {
+        keyed_item(text, words, s, path, b, f, a, d, e)
+    } else {
+        Item::Broken(Cause::NoColon)
+    }
+}
+
+// The items of level k from lo to hi, from the left: the first that is found or broken. Word after word of the commas, and bit after bit.
+pub fn find_name(
+    text: &[u8],
+    words: &[u64],
+    s: Shape,
+    k: usize,
+    path: &[u8],
+    b: usize,
+    f: usize,
+    lo: usize,
+    hi: usize,
+) -> Item
+    requires { ⌜ Lent (now text) (now words) s ⌝ }
+    requires { ⌜ (1 ≤ k) × (k ≤ s .levels) ⌝ }
+    requires { ⌜ (lo < hi) × (hi ≤ length (now text)) × (b ≤ f) × (f ≤ length (now path)) ⌝ }
+    ensures { λ r. ⌜ r ≡ items (itemAt (byteIn (now (text .entry))) (lent (now (words .entry)) (s .levels) (s .width)) k (between (byteIn (now (path .entry))) b f)) (bitIn (now (words .entry)) (s .levels) (s .width) (commas k)) lo hi ⌝ }
+{
+    let mut start = lo;
+    let mut at = lo;
+    let mut w = lo / 64;
+    let mut x = bits::word(words, s, Map::Commas(k), w) >> (lo % 64);
+    let found = 'walk: loop {
+        while x != 0 {
+            let n = u64::trailing_zeros(x);
+            let comma = at + (n as usize);
+            if hi <= comma {
+                break 'walk item_of(text, words, s, k, path, b, f, start, hi);
+            }
+            let item = item_of(text, words, s, k, path, b, f, start, comma);
+            let Item::Other = item else {
+                break 'walk item;
+            };
+            start = comma + 1;
+            at = start;
+            x = (x >> n) >> 1;
+        }
+        w += 1;
+        at = w * 64;
+        if hi <= at {
+            break 'walk item_of(text, words, s, k, path, b, f, start, hi);
+        }
+        x = bits::word(words, s, Map::Commas(k), w);
+    };
+    found
+}
+
+// The item of level k that begins at start.
+fn item_from(text: &[u8], words: &[u64], s: Shape, k: usize, start: usize, hi: usize) -> Item
+    requires { ⌜ Lent (now text) (now words) s ⌝ }
+    requires { ⌜ (1 ≤ k) × (k ≤ s .levels) ⌝ }
+    requires { ⌜ (start ≤ hi) × (hi ≤ length (now text)) ⌝ }
+    ensures { λ r. ⌜ r ≡ itemNo (byteIn (now (text .entry))) (bitIn (now (words .entry)) (s .levels) (s .width) (commas k)) 0 start hi ⌝ }
+{
+    let end = bits::next_bit(words, s, Map::Commas(k), start, hi);
+    value_at(text, start, end)
+}
+
+// The item with number m of those from lo to hi: behind the comma with the number before it.
+pub fn item_no(
+    text: &[u8],
+    words: &[u64],
+    s: Shape,
+    k: usize,
+    m: usize,
+    lo: usize,
+    hi: usize,
+) -> Item
+    requires { ⌜ Lent (now text) (now words) s ⌝ }
+    requires { ⌜ (1 ≤ k) × (k ≤ s .levels) ⌝ }
+    requires { ⌜ (lo ≤ hi) × (hi ≤ length (now text)) ⌝ }
+    ensures { λ r. ⌜ r ≡ itemNo (byteIn (now (text .entry))) (bitIn (now (words .entry)) (s .levels) (s .width) (commas k)) m lo hi ⌝ }
+{
+    if m == 0 {
+        return item_from(text, words, s, k, lo, hi);
+    }
+    let c = bits::nth_bit(words, s, Map::Commas(k), m - 1, lo, hi);
+    if hi <= c {
+        return Item::Other;
+    }
+    item_from(text, words, s, k, c + 1, hi)
+}

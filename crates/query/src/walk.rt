@@ -1,0 +1,163 @@
+// The steps of a path, one after another, from the record without blanks at its ends.
+use crate::bits::Shape;
+use crate::blanks;
+use crate::items;
+use crate::items::Item;
+use crate::path;
+use crate::path::Step;
+use crate::types::Answer;
+use crate::types::Cause;
+use crate::types::Refusal;
+ghost use mathlib.Core.Path.{_≡_};
+ghost use mathlib.Core.List.{List};
+ghost use Prim.Native.Nat.{_+_, _<_, _≤_};
+ghost use lib.ListN.{length};
+ghost use Rattle.query.specs.Helpers.{Lent, pathCheck};
+ghost use Rattle.query.specs.declared.path.Checked.the-variants.{Fine};
+ghost use Rattle.query.specs.Grammar.{Selector};
+ghost use Rattle.query.specs.Path.{readPath, good};
+ghost use Rattle.query.specs.Places.{byteIn, between};
+ghost use Rattle.query.specs.Items.{lent};
+ghost use Rattle.query.specs.Walk.{framed, filled, nameStep, numberStep, walkFrom, walk};
+
+// From a to e: at least two bytes, with these at its ends.
+fn is_framed(text: &[u8], head: u8, tail: u8, a: usize, e: usize) -> bool
+    requires { ⌜ (a ≤ e) × (e ≤ length (now text)) ⌝ }
+    ensures { λ r. ⌜ r ≡ framed (byteIn (now (text .entry))) head tail a e ⌝ }
+{
+    if e <= a + 1 {
+        return false;
+    }
+    if text[a] != head {
+        return false;
+    }
+    text[e - 1] == tail
+}
+
+// What lies between the ends is more than blanks.
+fn is_filled(text: &[u8], a: usize, e: usize) -> bool
+    requires { ⌜ (a + 1 < e) × (e ≤ length (now text)) ⌝ }
+    ensures { λ r. ⌜ r ≡ filled (byteIn (now (text .entry))) a e ⌝ }
+{
+    blanks::skip_blanks(text, a + 1, e - 1) < e - 1
+}
+
+// The step number k, by the name b to f of the path, in the value from a to e.
+fn name_step(
+    text: &[u8],
+    words: &[u64],
+    s: Shape,
+    k: usize,
+    path: &[u8],
+    b: usize,
+    f: usize,
+    a: usize,
+    e: usize,
+) -> Answer
+    requires { ⌜ Lent (now text) (now words) s ⌝ }
+    requires { ⌜ (1 ≤ k) × (k ≤ s .levels) ⌝ }
+    requires { ⌜ (a ≤ e) × (e ≤ length (now text)) × (b ≤ f) × (f ≤ length (now path)) ⌝ }
+    ensures { λ r. ⌜ r ≡ nameStep (byteIn (now (text .entry))) (lent (now (words .entry)) (s .levels) (s .width)) k (between (byteIn (now (path .entry))) b f) a e ⌝ }
+{
+    if !is_framed(text, 123, 125, a, e) {
+        return Answer::Refused(Refusal::NotObject);
+    }
+    if !is_filled(text, a, e) {
+        return Answer::Refused(Refusal::NoName);
+    }
+    let item = items::find_name(text, words, s, k, path, b, f, a + 1, e - 1);
+    match item {
+        Item::Found { start, end } => Answer::Found { start, end },
+        Item::Other => Answer::Refused(Refusal::NoName),
+        Item::Broken(why) => Answer::Refused(Refusal::Broken(why)),
+    }
+}
+
+// The step number k, by the number m, in the value from a to e.
+fn number_step(
+    text: &[u8],
+    words: &[u64],
+    s: Shape,
+    k: usize,
+    m: usize,
+    a: usize,
+    e: usize,
+) -> Answer
+    requires { ⌜ Lent (now text) (now words) s ⌝ }
+    requires { ⌜ (1 ≤ k) × (k ≤ s .levels) ⌝ }
+    requires { ⌜ (a ≤ e) × (e ≤ length (now text)) ⌝ }
+    ensures { λ r. ⌜ r ≡ numberStep (byteIn (now (text .entry))) (lent (now (words .entry)) (s .levels) (s .width)) k m a e ⌝ }
+{
+    if !is_framed(text, 91, 93, a, e) {
+        return Answer::Refused(Refusal::NotArray);
+    }
+    if !is_filled(text, a, e) {
+        return Answer::Refused(Refusal::NoNumber);
+    }
+    let item = items::item_no(text, words, s, k, m, a + 1, e - 1);
+    match item {
+        Item::Found { start, end } => Answer::Found { start, end },
+        Item::Other => Answer::Refused(Refusal::NoNumber),
+        Item::Broken(why) => Answer::Refused(Refusal::Broken(why)),
+    }
+}
+
+// All steps of a path that was checked, from the value of `$` on.
+fn walk_path(text: &[u8], words: &[u64], s: Shape, path: &[u8], from: usize, to: usize) -> Answer
+    requires { ⌜ Lent (now text) (now words) s ⌝ }
+    requires { ⌜ (from ≤ to) × (to ≤ length (now text)) ⌝ }
+    requires { ⌜ pathCheck (now path) (s .levels) ≡ Fine ⌝ }
+    ensures { λ r. ⌜ ((ss : List Selector) → readPath (now (path .entry)) ≡ good ss → r ≡ walkFrom (byteIn (now (text .entry))) (lent (now (words .entry)) (s .levels) (s .width)) 1 ss from to) ⌝ }
+{
+    let mut a = from;
+    let mut e = to;
+    let mut at: usize = 1;
+    let mut k: usize = 1;
+    loop {
+        let step = path::read_step(path, at);
+        let Step::Name {
+            start: b,
+            end: f,
+            next: after,
+        } = step
+        else {
+            let Step::Number {
+                value: m,
+                next: behind,
+            } = step
+            else {
+                return Answer::Found { start: a, end: e };
+            };
+            let item = number_step(text, words, s, k, m, a, e);
+            let Answer::Found { start, end } = item else {
+                return item;
+            };
+            a = start;
+            e = end;
+            at = behind;
+            k += 1;
+            continue;
+        };
+        let member = name_step(text, words, s, k, path, b, f, a, e);
+        let Answer::Found { start, end } = member else {
+            return member;
+        };
+        a = start;
+        e = end;
+        at = after;
+        k += 1;
+    }
+}
+
+// The whole walk.
+pub fn walk_record(text: &[u8], words: &[u64], s: Shape, path: &[u8]) -> Answer
+    requires { ⌜ Lent (now text) (now words) s ⌝ }
+    requires { ⌜ pathCheck (now path) (s .levels) ≡ Fine ⌝ }
+    ensures { λ r. ⌜ ((ss : List Selector) → readPath (now (path .entry)) ≡ good ss → r ≡ walk (now (text .entry)) (lent (now (words .entry)) (s .levels) (s .width)) ss) ⌝ }
+{
+    let whole = items::value_at(text, 0, text.len());
+    let Item::Found { start, end } = whole else {
+        return Answer::Refused(Refusal::Broken(Cause::EmptyValue));
+    };
+    walk_path(text, words, s, path, start, end)
+}
