@@ -1,3 +1,6 @@
 -- The theorems stand in Theorems; the others lead there.
 pub mod Walks
 pub mod Spans
+pub mod Past
+pub mod Truth
+pub mod Border
