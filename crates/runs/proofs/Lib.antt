@@ -4,3 +4,4 @@ pub mod Spans
 pub mod Past
 pub mod Truth
 pub mod Border
+pub mod Words
