@@ -5,3 +5,4 @@ pub mod Past
 pub mod Truth
 pub mod Border
 pub mod Words
+pub mod Steps
