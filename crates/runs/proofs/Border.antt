@@ -20,13 +20,13 @@ use Rattle.rules.proofs.Counting.{count-cat}
 use Rattle.rules.proofs.RuleLaws.{inString-add, plain-apart}
 use Rattle.index.specs.declared.Fault.{Fault}
 use Rattle.index.specs.declared.Fault.the-variants.{InString, InBracket}
-use Rattle.index.specs.declared.Kept.{Kept}
-use Rattle.index.specs.declared.Chunk.{Chunk}
-use Rattle.index.specs.declared.checks.Span.{Span}
-use Rattle.index.specs.declared.settling.Sought.{Sought}
-use Rattle.index.specs.declared.settling.Sought.the-variants.{On, At}
-use Rattle.index.specs.declared.settling.Found.{Found}
-use Rattle.index.specs.declared.settling.Found.the-variants.{Nothing, Here}
+use Rattle.index.specs.Types.{Kept}
+use Rattle.index.specs.Types.{Chunk}
+use Rattle.index.specs.Types.{Span}
+use Rattle.index.specs.Types.{Sought}
+use Rattle.index.specs.Types.{On, At}
+use Rattle.index.specs.Types.{Found}
+use Rattle.index.specs.Types.{Nothing, Here}
 use Rattle.index.specs.Swinging.{dip, peak, swing}
 use Rattle.index.specs.Depth.{keptOf, belowZero, above64, clampDepth}
 use Rattle.index.specs.Scanning.{swingBy, oddIn}
@@ -65,10 +65,9 @@ module _ {text : List ℕ} {c : Chunk} {s : Span} (t : Truth text c s) (l : s .f
   unfolding keptOf swingBy swing opener closer
   depth-behind e few q =
       let u = count (λ j. opener text (64 * s .from + j)) (64 * (s .to - s .from)) in
-      let d = count (λ j. closer text (64 * s .from + j)) (64 * (s .to - s .from)) in
-      (
+      let d = count (λ j. closer text (64 * s .from + j)) (64 * (s .to - s .from)) in (
         ap (λ (k : Kept). clampDepth (pos (c .start) +ℤ k .net)) (t .kept-is) ∙ depth-is (c .start) u d (omega (arith, q)) (omega (arith, q)) ∙ omega (arith, q),
-        subst (Depth text e) reaches (depth-on text (c .start) e (64 * s .from) (64 * (s .to - s .from)) (t .depth-is) q)
+        subst (Depth text e) reaches (depth-on text (c .start) e (64 * s .from) (64 * (s .to - s .from)) (t .depth-is) q),
       )
 
 -- ---- the fault of a chunk
@@ -117,8 +116,8 @@ meets-of text d a m l h = go (told text (e - a) d a (length text - e) h)
     go (goes-on g x y z) =
         clear g
         (
-          ap (seek (opener text) (closer text) d a) parts ∙ seek-on (opener text) (closer text) d a (e - a) pad x
-          ∙ ap (seek (opener text) (closer text) g (a + (e - a))) (sym (add-zero pad)) ∙ seek-over (opener text) (closer text) g (a + (e - a)) pad 0 bare
+        ap (seek (opener text) (closer text) d a) parts ∙ seek-on (opener text) (closer text) d a (e - a) pad x
+        ∙ ap (seek (opener text) (closer text) g (a + (e - a))) (sym (add-zero pad)) ∙ seek-over (opener text) (closer text) g (a + (e - a)) pad 0 bare
         )
         (ap (faultFrom text a) (sym all) ∙ z ∙ ap (λ (i : ℕ). faultFrom text i (length text - e)) reach)
     go (stops f x z) =
@@ -180,12 +179,12 @@ module _ {text : List ℕ} {c : Chunk} {s : Span} (t : Truth text c s) where
           go (stays e p low high end) (clear g q z) =
               nothing (not-announced c text words levels s (announced-is ∙ ap₂ _||_ (le-ltb _ _ low) (le-ltb _ _ high)))
               (
-                record {
-                  behind = e;
-                  within = omega (arith, end, high, peak-ge o k m, dip-ge o k m);
-                  swings = end;
-                  none-yet = earlier ∙ z ∙ ap (λ (i : ℕ). faultFrom text (min i (length text)) (length text - min i (length text))) reach;
-                }
+              record {
+                behind = e;
+                within = omega (arith, end, high, peak-ge o k m, dip-ge o k m);
+                swings = end;
+                none-yet = earlier ∙ z ∙ ap (λ (i : ℕ). faultFrom text (min i (length text)) (length text - min i (length text))) reach;
+              }
               )
           go (meets f p out) (clear g q z) = on-at (seek (opener text) (closer text) (c .start) a m) q p
           go (meets f p out) (found g q z) =

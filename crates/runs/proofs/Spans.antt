@@ -13,9 +13,9 @@ use lib.Seq.{getD-set-same, getD-set-other}
 use lib.Dec.{leb}
 use Rattle.rules.specs.Word.{pick}
 use Rattle.rules.specs.Layout.{widthOf, sizeOf}
-use Rattle.index.specs.declared.Chunk.{Chunk}
+use Rattle.index.specs.Types.{Chunk}
 use Rattle.index.specs.declared.Job.{Job}
-use Rattle.index.specs.declared.checks.Span.{Span}
+use Rattle.index.specs.Types.{Span}
 use Rattle.index.specs.Checks.{fresh, chunksOf, chunkAt, withChunk, firstWord, isLast, spanOf}
 
 -- what an accepted opening fixes, and no call changes

@@ -10,10 +10,10 @@ use Rattle.rules.specs.Word.{pick, xor}
 use Rattle.rules.specs.Bits.{quoteBit, inString, maskBit}
 use Rattle.rules.specs.Layout.{Bitmap, quotes, mask, colons, commas, widthOf, Has, cell}
 use Rattle.rules.proofs.WordLaws.{wordAt-ext}
-use Rattle.index.specs.declared.Kept.{Kept}
-use Rattle.index.specs.declared.Chunk.{Chunk}
+use Rattle.index.specs.Types.{Kept}
+use Rattle.index.specs.Types.{Chunk}
 use Rattle.index.specs.declared.Job.{Job}
-use Rattle.index.specs.declared.checks.Span.{Span}
+use Rattle.index.specs.Types.{Span}
 use Rattle.index.specs.Guessing.{guessBit}
 use Rattle.index.specs.Depth.{keptOf}
 use Rattle.index.specs.Checks.{chunkAt, spanOf}
@@ -79,19 +79,17 @@ module _ (text : List ℕ) (levels : ℕ) (j : Job) (words : List ℕ) (k : ℕ)
       unfolding settleWords guessWrong
       by-guess true e =
           let same : after ≡ flipWords (length text) levels (s .from) (s .to) words = rw e (ap (λ (x : ℕ). flipWords (length text) x (s .from) (s .to) words) deep) in
-          let flipped = flip-mask text levels s words t (c .inside) (ap (xor (c .inside)) (sym inside) ∙ e) (ok .guess-mask scanned unset) in
-          (
+          let flipped = flip-mask text levels s words t (c .inside) (ap (xor (c .inside)) (sym inside) ∙ e) (ok .guess-mask scanned unset) in (
             subst (λ (x : List ℕ). Holds (cell x levels W) s mask (maskBit text)) (sym same) flipped,
-            λ w l. ap (λ (x : List ℕ). cell x levels W quotes w) same ∙ flip-quotes text levels s words t w l
+            λ w l. ap (λ (x : List ℕ). cell x levels W quotes w) same ∙ flip-quotes text levels s words t w l,
           )
       by-guess false e =
           let same : after ≡ words = rw e in
-          let right : c .inside ≡ inString text (64 * s .from) = xor-same (c .inside) (insideOf j k) e ∙ inside in
-          (
+          let right : c .inside ≡ inString text (64 * s .from) = xor-same (c .inside) (insideOf j k) e ∙ inside in (
             λ w i.
-              ap (λ (x : List ℕ). cell x levels W mask w) same ∙ ok .guess-mask scanned unset w i
-              ∙ wordAt-ext _ _ w (λ b l. guess-right text (c .inside) (64 * s .from) right (64 * w + b) (omega (arith, i))),
-            λ w l. ap (λ (x : List ℕ). cell x levels W quotes w) same
+                ap (λ (x : List ℕ). cell x levels W mask w) same ∙ ok .guess-mask scanned unset w i
+                ∙ wordAt-ext _ _ w (λ b l. guess-right text (c .inside) (64 * s .from) right (64 * w + b) (omega (arith, i))),
+            λ w l. ap (λ (x : List ℕ). cell x levels W quotes w) same,
           )
 
       pub settle-mask : Holds (cell after levels W) s mask (maskBit text)
@@ -106,16 +104,16 @@ module _ (text : List ℕ) (levels : ℕ) (j : Job) (words : List ℕ) (k : ℕ)
       kept-true true e =
           rw e
           (
-            ap₂ (λ (o : Bool) (x : ℕ). keptOf o (swingBy (maskIn after x (length text)) text (64 * s .from) (64 * (s .to - s .from)))) (ap (λ (x : Kept). x .odd) (ok .guess-kept scanned unset)) deep
-            ∙ ap (keptOf (oddIn text (s .from) (s .to))) (swingBy-ext (maskIn after levels (length text)) (maskBit text) text (64 * s .from) (64 * (s .to - s .from)) settle-bits)
+          ap₂ (λ (o : Bool) (x : ℕ). keptOf o (swingBy (maskIn after x (length text)) text (64 * s .from) (64 * (s .to - s .from)))) (ap (λ (x : Kept). x .odd) (ok .guess-kept scanned unset)) deep
+          ∙ ap (keptOf (oddIn text (s .from) (s .to))) (swingBy-ext (maskIn after levels (length text)) (maskBit text) text (64 * s .from) (64 * (s .to - s .from)) settle-bits)
           )
       kept-true false e =
           let right : c .inside ≡ inString text (64 * s .from) = xor-same (c .inside) (insideOf j k) e ∙ inside in
           rw e
           (
-            ok .guess-kept scanned unset
-            ∙ ap (keptOf (oddIn text (s .from) (s .to)))
-            (swingBy-ext (guessBit (c .inside) (64 * s .from) text) (maskBit text) text (64 * s .from) (64 * (s .to - s .from)) (λ i l. guess-right text (c .inside) (64 * s .from) right (64 * s .from + i) (omega arith)))
+          ok .guess-kept scanned unset
+          ∙ ap (keptOf (oddIn text (s .from) (s .to)))
+          (swingBy-ext (guessBit (c .inside) (64 * s .from) text) (maskBit text) text (64 * s .from) (64 * (s .to - s .from)) (λ i l. guess-right text (c .inside) (64 * s .from) right (64 * s .from + i) (omega arith)))
           )
 
       pub settle-truth : Truth text (settleChunk j text after k) s
@@ -143,19 +141,19 @@ module _ (text : List ℕ) (levels : ℕ) (j : Job) (words : List ℕ) (k : ℕ)
     level-ok set =
         subst (λ (x : ℕ). ChunkOk text levels (cell (levelWords text x (s .from) (s .to) (c .start) words) levels W) (levelChunk j k) s) (sym deep)
         (
-          let depth = ok .truth set .depth-is in
-          let masks = ok .masked set in
-          let marks = level-marks text words levels s (c .start) t masks depth in
-          record {
-            quoted = λ p w i. marks quotes tt w (omega (arith, i)) refl ∙ ok .quoted p w i;
-            guess-kept = λ p q. clash (c .settled) set q;
-            guess-mask = λ p q. clash (c .settled) set q;
-            truth = λ p. relabel (ok .truth set);
-            masked = λ p w i. marks mask tt w (omega (arith, i)) refl ∙ ok .masked p w i;
-            settled-first = λ p. set;
-            coloned = λ p. level-colons text words levels s (c .start) t masks depth;
-            comma-ed = λ p. level-commas text words levels s (c .start) t masks depth;
-          }
+        let depth = ok .truth set .depth-is in
+        let masks = ok .masked set in
+        let marks = level-marks text words levels s (c .start) t masks depth in
+        record {
+          quoted = λ p w i. marks quotes tt w (omega (arith, i)) refl ∙ ok .quoted p w i;
+          guess-kept = λ p q. clash (c .settled) set q;
+          guess-mask = λ p q. clash (c .settled) set q;
+          truth = λ p. relabel (ok .truth set);
+          masked = λ p w i. marks mask tt w (omega (arith, i)) refl ∙ ok .masked p w i;
+          settled-first = λ p. set;
+          coloned = λ p. level-colons text words levels s (c .start) t masks depth;
+          comma-ed = λ p. level-commas text words levels s (c .start) t masks depth;
+        }
         )
       where
         relabel : Truth text c s → Truth text (levelChunk j k) s

@@ -9,8 +9,8 @@ use Rattle.rules.specs.Word.{count, wordAt}
 use Rattle.rules.specs.Bits.{quoteBit, inString, maskBit, opener, closer, colonBit, commaBit}
 use Rattle.rules.specs.Faults.{faultFrom, faultOf}
 use Rattle.rules.specs.Layout.{Bitmap, quotes, mask, colons, commas, Has}
-use Rattle.index.specs.declared.Chunk.{Chunk}
-use Rattle.index.specs.declared.checks.Span.{Span}
+use Rattle.index.specs.Types.{Chunk}
+use Rattle.index.specs.Types.{Span}
 use Rattle.index.specs.Guessing.{guessBit}
 use Rattle.index.specs.Depth.{keptOf}
 use Rattle.index.specs.Scanning.{swingBy, oddIn, scanKept}

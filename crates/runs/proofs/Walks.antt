@@ -15,8 +15,8 @@ use Rattle.rules.specs.Bits.{opener, closer, atDepth, maskBit}
 use Rattle.rules.specs.Faults.{Verdict, sound, faulty, closesNone, opensOver, faultFrom}
 use Rattle.index.specs.declared.Fault.{Fault}
 use Rattle.index.specs.declared.Fault.the-variants.{Closer, Opener}
-use Rattle.index.specs.declared.settling.Sought.{Sought}
-use Rattle.index.specs.declared.settling.Sought.the-variants.{On, At}
+use Rattle.index.specs.Types.{Sought}
+use Rattle.index.specs.Types.{On, At}
 use Rattle.index.specs.Answers.{faultNumber, faultPlace}
 use Rattle.index.specs.Swinging.{dip, peak, Apart}
 use Rattle.index.specs.Settling.{limitOf, faultOfBracket, depthPast, seek}

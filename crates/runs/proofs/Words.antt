@@ -17,7 +17,7 @@ use Rattle.rules.proofs.Booleans.{bool1, bool2}
 use Rattle.rules.proofs.Counting.{count-ext, count-cat}
 use Rattle.rules.proofs.WordLaws.{wordAt-ext, bit-at}
 use Rattle.rules.proofs.LayoutLaws.{Cells, laid-cells}
-use Rattle.index.specs.declared.checks.Span.{Span}
+use Rattle.index.specs.Types.{Span}
 use Rattle.index.specs.Guessing.{guessed, guessBit}
 use Rattle.index.specs.Writing.{over, rewritten, marksTill, levelsTill}
 use Rattle.index.specs.Scanning.{swingBy, scanWord, scanWords}
