@@ -35,7 +35,8 @@ use Rattle.index.proofs.SwingLaws.{dip-ge, peak-ge}
 use Rattle.index.proofs.DepthLaws.{falls-is, climbs-is, depth-is}
 use Rattle.index.proofs.SeekLaws.{seek-on, seek-at, seek-over}
 use Rattle.index.proofs.SettleLaws.{end-string, end-bracket, end-none, not-announced, is-announced, fault-sought}
-use Rattle.runs.proofs.Walks.{Walked, stays, meets, walked, verdictOf, Depth, Told, goes-on, stops, told}
+use Rattle.runs.specs.Runs.{verdictOf}
+use Rattle.runs.proofs.Walks.{Walked, stays, meets, walked, Depth, Told, goes-on, stops, told}
 use Rattle.runs.proofs.Past.{opener-past, closer-past, inString-past, openers-past, closers-past}
 use Rattle.runs.proofs.Truth.{Truth, Clear}
 

@@ -9,7 +9,7 @@ use borrow.Author.Tests.{eq-eqb, ne-eqb}
 use native.Mathlib.Decide.{ℕ-discrete}
 use lib.ListN.{length}
 use lib.Dec.{eqb, ltb}
-use Rattle.rules.specs.Word.{pick, xor, count, wordAt, bit}
+use Rattle.rules.specs.Word.{xor, odd, count, wordAt, bit}
 use Rattle.rules.specs.Bytes.{Class, colon, comma, opens, closes, has}
 use Rattle.rules.specs.Bits.{quoteBit, inString, maskBit, plain, opener, closer, atDepth, levelBit, colonBit, commaBit}
 use Rattle.rules.specs.Layout.{Bitmap, quotes, mask, colons, commas, widthOf, sizeOf, Has, cell, bitIn}
@@ -79,7 +79,7 @@ turn-over false false true false e = refl
 -- a wrong one, turned over within the record, is the mask
 pub guess-wrong : (text : List ℕ) (g : Bool) (a : ℕ) → xor g (inString text a) ≡ true → (i : ℕ) → a ≤ i → xor (guessBit g a text i) (ltb i (length text)) ≡ maskBit text i
 unfolding guessBit guessed
-guess-wrong text g a e i l = turn-over _ g (inString text a) (ltb i (length text)) e ∙ guess-right text (inString text a) a refl i l
+guess-wrong text g a e i l = turn-over (odd (count (λ j. quoteBit text (a + j)) (i - a))) g (inString text a) (ltb i (length text)) e ∙ guess-right text (inString text a) a refl i l
 
 -- a bit of words whose mask words of a chunk are known
 pub mask-bit : (text words : List ℕ) (levels : ℕ) (s : Span) (p : ℕ → Bool) → s .to ≤ widthOf (length text) → Holds (cell words levels (widthOf (length text))) s mask p

@@ -8,6 +8,8 @@ use Rattle.index.specs.declared.Answer.{Answer}
 use Rattle.index.specs.declared.Answer.the-variants.{Done, Faulty}
 use Rattle.index.specs.declared.Fault.{Fault}
 use Rattle.index.specs.declared.Job.{Job}
+use Rattle.rules.specs.Faults.{Verdict, faulty}
+use Rattle.index.specs.Answers.{faultNumber, faultPlace}
 use Rattle.index.specs.Opening.{opening, opened}
 use Rattle.index.specs.Scanning.{scanned, scannedWords}
 use Rattle.index.specs.Settling.{settled, settledWords}
@@ -54,6 +56,10 @@ pub record Reached (text : List ℕ) (levels : ℕ) (h : Held) : Type 0 where
   pub calls : List Call
   pub accepted : opening (length text) (length words) levels cuts ≡ Done
   pub leads : run text calls (start text levels cuts words) ≡ h
+
+-- a fault that a call names, as the rules name it: its number and its place
+unfoldable pub verdictOf : Fault → Verdict
+verdictOf f = faulty (faultNumber f) (faultPlace f)
 
 -- an answer of close that ends the job
 pub data Ends : Answer → Type 0 where
