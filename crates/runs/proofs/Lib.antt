@@ -6,3 +6,4 @@ pub mod Truth
 pub mod Border
 pub mod Words
 pub mod Steps
+pub mod Good
