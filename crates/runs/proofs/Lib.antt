@@ -7,3 +7,4 @@ pub mod Border
 pub mod Words
 pub mod Steps
 pub mod Good
+pub mod Opening
