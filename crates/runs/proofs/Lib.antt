@@ -8,3 +8,4 @@ pub mod Words
 pub mod Steps
 pub mod Good
 pub mod Opening
+pub mod Calls

@@ -26,7 +26,7 @@ use Rattle.runs.proofs.Walks.{Depth}
 use Rattle.runs.proofs.Truth.{In, Truth, Holds, ChunkOk}
 use Rattle.runs.proofs.Words.{guess-right, mask-bit, scan-quotes, scan-mask, flip-mask, flip-quotes, level-colons, level-commas, level-marks}
 
-clash : {A : Type 0} (b : Bool) → b ≡ true → b ≡ false → A
+pub clash : {A : Type 0} (b : Bool) → b ≡ true → b ≡ false → A
 clash b p q = let z : _≡_ {A = ℕ} 0 1 = cc in absurd (omega arith)
 
 is-false : (b : Bool) → (b ≡ true → ⊥) → b ≡ false
@@ -51,7 +51,7 @@ module _ (text : List ℕ) (levels : ℕ) (j : Job) (words : List ℕ) (k : ℕ)
 
   module _ (t : s .to ≤ W) (ok : ChunkOk text levels (cell words levels W) c s) where
     -- ---- scan
-    unsettled : c .scanned ≡ false → c .settled ≡ false
+    pub unsettled : c .scanned ≡ false → c .settled ≡ false
     unsettled e = is-false (c .settled) (λ p. clash (c .scanned) (ok .truth p .scanned-is) e)
 
     pub scan-ok : (g : Bool) → c .scanned ≡ false → ChunkOk text levels (cell (scanWords text (j .levels) (s .from) (s .to) g words) levels W) (scanChunk j text k g) s
