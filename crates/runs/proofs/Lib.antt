@@ -9,3 +9,4 @@ pub mod Steps
 pub mod Good
 pub mod Opening
 pub mod Calls
+pub mod Reach
