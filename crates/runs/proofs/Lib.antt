@@ -10,3 +10,4 @@ pub mod Good
 pub mod Opening
 pub mod Calls
 pub mod Reach
+pub mod Theorems
