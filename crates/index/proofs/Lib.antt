@@ -20,3 +20,4 @@ pub mod DepthLaws
 pub mod OpenLaws
 pub mod CloseLaws
 pub mod NumberLaws
+pub mod Cases

@@ -11,3 +11,4 @@ pub mod Opening
 pub mod Calls
 pub mod Reach
 pub mod Theorems
+pub mod Progress

@@ -36,7 +36,7 @@ use Rattle.runs.proofs.Reach.{Fine, Over, reached-fine}
 -- ---- what was reached and is not closed
 
 module _ {text : List ℕ} {levels : ℕ} {h : Held} (r : Reached text levels h) where
-  good : (h .job .state ≡ Closed → ⊥) → Good text levels (h .job) (h .words)
+  pub good : (h .job .state ≡ Closed → ⊥) → Good text levels (h .job) (h .words)
   unfolding Fine Over
   good live = go (reached-fine text levels h r)
     where
@@ -91,7 +91,7 @@ ends-no a (Ends.fault f) q = let z : _≡_ {A = ℕ} 0 1 = cc in omega arith
 differ : {A : Type 0} (n m : ℕ) {p q : ℕ} → eqb n m ≡ false → faulty n p ≡ faulty m q → A
 differ n m d e = let same : n ≡ m = cc in absurd (eqb-false n m d same)
 
-sound-faulty : {A : Type 0} (f : Fault) → sound ≡ verdictOf f → A
+pub sound-faulty : {A : Type 0} (f : Fault) → sound ≡ verdictOf f → A
 unfolding verdictOf
 sound-faulty f e = let z : _≡_ {A = ℕ} 0 1 = cc in absurd (omega arith)
 
