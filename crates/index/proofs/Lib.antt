@@ -20,3 +20,6 @@ pub mod DepthLaws
 pub mod OpenLaws
 pub mod CloseLaws
 pub mod NumberLaws
+pub mod FrameLaws
+pub mod LocalityLaws
+pub mod OutcomeLaws

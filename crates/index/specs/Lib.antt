@@ -13,3 +13,4 @@ pub mod Stepping
 pub mod Opening
 pub mod Closing
 pub mod Numbers
+pub mod Frames
