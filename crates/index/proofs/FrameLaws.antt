@@ -3,13 +3,13 @@
 use mathlib.Core.Path.{_≡_, refl, sym, _∙_}
 use mathlib.Core.Bool.{Bool, true, false}
 use mathlib.Core.List.{List}
-use Prim.Native.Nat.{ℕ, _+_, _*_, _≤_, _<_}
+use Prim.Native.Nat.{ℕ, _≤_, _<_}
 use native.Mathlib.Omega.{arith}
 use native.Mathlib.Decide.{decLt}
 use native.Mathlib.Nat.{lt-of-not-le}
 use lib.ListN.{length}
 use Rattle.rules.specs.Word.{pick}
-use Rattle.rules.specs.Layout.{Bitmap, quotes, mask, colons, commas, widthOf, sizeOf, Has, cell}
+use Rattle.rules.specs.Layout.{Bitmap, quotes, mask, colons, commas, widthOf, sizeOf, cell}
 use Rattle.rules.proofs.LayoutLaws.{laid-cells}
 use Rattle.index.specs.declared.Answer.{Answer}
 use Rattle.index.specs.declared.Answer.the-variants.{Done, Refused, Faulty}
@@ -17,12 +17,12 @@ use Rattle.index.specs.declared.Step.{Step}
 use Rattle.index.specs.declared.Step.the-variants.{Scan, Settle, Level}
 use Rattle.index.specs.declared.Job.{Job}
 use Rattle.index.specs.Answers.{onDone}
-use Rattle.index.specs.Checks.{chunkAt, spanOf, refusal}
+use Rattle.index.specs.Checks.{spanOf, refusal}
 use Rattle.index.specs.Writing.{over, rewritten, marksTill, levelsTill}
-use Rattle.index.specs.Scanning.{scanWord, scanWords, scannedWords}
-use Rattle.index.specs.Settling.{flipWord, flipWords, guessWrong, settleWords, settledWords}
-use Rattle.index.specs.Levelling.{levelWord, levelWords, levelledWords}
-use Rattle.index.specs.Frames.{writes, MayWrite, Frame}
+use Rattle.index.specs.Scanning.{scanWords, scannedWords}
+use Rattle.index.specs.Settling.{flipWords, guessWrong, settleWords, settledWords}
+use Rattle.index.specs.Levelling.{levelWords, levelledWords}
+use Rattle.index.specs.Frames.{writes, Frame}
 use Rattle.index.proofs.WriteLaws.{over-below, over-above}
 use Rattle.index.proofs.StepLaws.{fitting}
 

@@ -9,10 +9,10 @@ use native.Mathlib.Decide.{decLt}
 use native.Mathlib.Nat.{lt-of-not-le}
 use lib.ListN.{length, getD, List·getD-eq-default}
 use lib.Dec.{ltb}
-use Rattle.rules.specs.Word.{xor, odd, count, wordAt}
+use Rattle.rules.specs.Word.{xor, odd, count}
 use Rattle.rules.specs.Bytes.{Class, opens, closes, is, has}
 use Rattle.rules.specs.Bits.{quoteBit, plain}
-use Rattle.rules.specs.Layout.{Bitmap, quotes, mask, colons, commas, widthOf, cell, Has}
+use Rattle.rules.specs.Layout.{Bitmap, quotes, mask, colons, commas, widthOf, cell}
 use Rattle.rules.proofs.Counting.{count-ext}
 use Rattle.rules.proofs.WordLaws.{wordAt-ext}
 use Rattle.rules.proofs.LayoutLaws.{laid-cells, cells-only}
