@@ -21,3 +21,6 @@ pub mod OpenLaws
 pub mod CloseLaws
 pub mod NumberLaws
 pub mod Cases
+pub mod FrameLaws
+pub mod LocalityLaws
+pub mod OutcomeLaws

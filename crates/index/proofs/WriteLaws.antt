@@ -1,9 +1,9 @@
 -- Words written over, one after the other: the next word of a bitmap, what is not yet written, and what is never written.
-use mathlib.Core.Path.{_≡_, refl, sym, ap, ap₂, _∙_}
+use mathlib.Core.Path.{_≡_, refl, sym, ap, _∙_}
 use mathlib.Core.Bool.{Bool, true, false, _&&_}
 use mathlib.Core.Logic.{_⊎_, inl, inr}
 use mathlib.Core.List.{List}
-use Prim.Native.Nat.{ℕ, zero, suc, _+_, _*_, _≤_, _<_, max}
+use Prim.Native.Nat.{ℕ, suc, _+_, _*_, _≤_, _<_, max}
 use native.Mathlib.Omega.{arith}
 use borrow.Author.Tests.{lt-ltb, le-ltb, le-leb, lt-leb}
 use native.Mathlib.Decide.{ℕ-discrete, decLt}
@@ -11,9 +11,9 @@ use native.Mathlib.Nat.{lt-of-not-le}
 use lib.ListN.{length, set}
 use lib.Dec.{ltb, leb}
 use Rattle.rules.specs.Word.{pick}
-use Rattle.rules.specs.Layout.{Bitmap, quotes, mask, colons, commas, Has, address, cell}
-use Rattle.rules.proofs.LayoutLaws.{Cells, cells-store, cells-only, laid-cells, own-cells}
-use Rattle.index.specs.Writing.{over, rewritten, marksTill}
+use Rattle.rules.specs.Layout.{Bitmap, Has, address, cell}
+use Rattle.rules.proofs.LayoutLaws.{Cells, cells-store, cells-only, laid-cells}
+use Rattle.index.specs.Writing.{over, rewritten}
 
 -- what a word is: in the part that is written, below it, and above it
 module _ (till : Bitmap → ℕ) (from : ℕ) (f old : Bitmap → ℕ → ℕ) (b : Bitmap) (w : ℕ) where

@@ -14,3 +14,4 @@ pub mod Opening
 pub mod Closing
 pub mod Numbers
 pub mod Types
+pub mod Frames
