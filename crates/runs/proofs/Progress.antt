@@ -28,6 +28,8 @@ use Rattle.runs.proofs.Truth.{Truth, ChunkOk}
 use Rattle.runs.proofs.Spans.{Shape, count-is, chunk-new, chunk-old}
 use Rattle.runs.proofs.Steps.{clash}
 use Rattle.runs.proofs.Good.{Good}
+use Rattle.index.proofs.NumberLaws.{settle-fault}
+use Rattle.runs.proofs.Reach.{Fine, scan-fine, settle-fine, level-fine}
 use Rattle.runs.proofs.Theorems.{good, stopped-named, lengths-exactly, sound-faulty}
 
 -- ---- "An open job over a sound record" is never stopped
@@ -163,10 +165,6 @@ lowers {text} {levels} {h} r o (level-next k e) =
     let s = g r o .shape in
     rw e (left-less s k (levelChunk (h .job) k) (omega (arith, a .chunk, count-is s)) (lacks-level (h .job) k (a .untaken)))
 
--- over a sound record an accepted settle finds nothing
-pub settle-done : {text : List ℕ} {levels : ℕ} {h : Held} → faultOf text ≡ sound → Reached text levels h → (k : ℕ) → refusal Settle (h .job) (length text) (length (h .words)) k ≡ Done → answer text (settle k) h ≡ Done
-settle-done s r k e = ?
-
 -- ---- every run can be brought to a close
 
 run-more : (text : List ℕ) (cs : List Call) (c : Call) (h : Held) → run text (cs ++ (c ∷ [])) h ≡ act text c (run text cs h)
@@ -184,9 +182,44 @@ reach-more {text} {levels} {h} c r =
       leads = run-more text (r .calls) c (start text levels (r .cuts) (r .words)) ∙ ap (act text c) (r .leads);
     }
 
--- an accepted step does not close
+-- a step leaves an open job open or stopped
 step-live : {text : List ℕ} {levels : ℕ} {h : Held} {c : Call} → Reached text levels h → h .job .state ≡ Open → Next text h c → act text c h .job .state ≡ Closed → ⊥
-step-live r o n e = ?
+unfolding Fine
+step-live {text} {levels} {h} r o (scan-next k x e) = scan-fine text levels k x h (g r o) .live
+step-live {text} {levels} {h} r o (settle-next k e) = settle-fine text levels k h (g r o) .live
+step-live {text} {levels} {h} r o (level-next k e) = level-fine text levels k h (g r o) .live
 
+by-fuel : {text : List ℕ} {levels : ℕ} (fuel : ℕ) (h : Held) → Reached text levels h → (h .job .state ≡ Closed → ⊥) → stepsLeft (h .job) < fuel → (cs : List Call) × Ends (answer text close (run text cs h))
+unfolding run
+by-fuel {text} {levels} zero h r l b = absurd (omega arith)
+by-fuel {text} {levels} (suc fuel) h r l b =
+    state-case (λ s. h .job .state ≡ s → (cs : List Call) × Ends (answer text close (run text cs h))) (λ o. opened o (some-step r o) (λ c. by-fuel fuel (act text c h) (reach-more c r)))
+    (λ f e. ([], subst Ends (sym (stopped-closes r f e)) (Ends.fault f))) (λ e. absurd (l e)) (h .job .state) refl
+  where
+    opened : h .job .state ≡ Open → (allLevelled (h .job) ≡ true) ⊎ ((c : Call) × Next text h c)
+        → ((c : Call) → (act text c h .job .state ≡ Closed → ⊥) → stepsLeft (act text c h .job) < fuel → (cs : List Call) × Ends (answer text close (run text cs (act text c h))))
+        → (cs : List Call) × Ends (answer text close (run text cs h))
+    opened o (inl e) more = ([], subst Ends (sym (then-closes r o e)) Ends.done)
+    opened o (inr (c, n)) more =
+        let rest = more c (step-live r o n) (omega (arith, lowers r o n)) in
+        (c ∷ rest .0, rest .1)
+
+-- whatever was called so far, unless the job is closed, further calls bring it to a close
 pub can-close : {text : List ℕ} {levels : ℕ} {h : Held} → Reached text levels h → (h .job .state ≡ Closed → ⊥) → (cs : List Call) × Ends (answer text close (run text cs h))
-can-close r l = ?
+can-close {text} {levels} {h} r l = by-fuel (suc (stepsLeft (h .job))) h r l (omega arith)
+
+-- ---- what settle finds
+
+-- a fault that settle answers is the record's
+pub settle-named : {text : List ℕ} {levels : ℕ} {h : Held} → Reached text levels h → (k : ℕ) (f : Fault) → answer text (settle k) h ≡ Faulty f → faultOf text ≡ verdictOf f
+unfolding answer act settled
+settle-named {text} {levels} {h} r k f e =
+    let found = settle-fault (h .job) text (h .words) k f .0 e in
+    stopped-named (reach-more (settle k) r) f (rw (found .0, found .1) refl)
+
+-- over a sound record an accepted settle finds nothing
+pub settle-done : {text : List ℕ} {levels : ℕ} {h : Held} → faultOf text ≡ sound → Reached text levels h → (k : ℕ) → refusal Settle (h .job) (length text) (length (h .words)) k ≡ Done → answer text (settle k) h ≡ Done
+unfolding answer settled
+settle-done {text} {levels} {h} s r k e =
+    found-case (λ x. foundBy (h .job) text (settleWords (h .job) text (h .words) k) k ≡ x → answer text (settle k) h ≡ Done) (λ q. rw (e, q) refl)
+    (λ f q. sound-faulty f (sym s ∙ settle-named r k f (rw (e, q) refl))) (foundBy (h .job) text (settleWords (h .job) text (h .words) k) k) refl

@@ -35,7 +35,7 @@ module _ (text : List ℕ) (levels : ℕ) where
   unfoldable pub Over : Held → Type 0
   Over h = h .job .state ≡ Closed
 
-  scan-fine : (k : ℕ) (x : Bool) (h : Held) → Fine h → Fine (act text (scan k x) h)
+  pub scan-fine : (k : ℕ) (x : Bool) (h : Held) → Fine h → Fine (act text (scan k x) h)
   unfolding Fine act scanned scannedWords
   scan-fine k x h g = go (refusal Scan (h .job) (length text) (length (h .words)) k) refl
     where
@@ -46,7 +46,7 @@ module _ (text : List ℕ) (levels : ℕ) where
       go (Refused y) e = g
       go (Faulty f) e = g
 
-  settle-fine : (k : ℕ) (h : Held) → Fine h → Fine (act text (settle k) h)
+  pub settle-fine : (k : ℕ) (h : Held) → Fine h → Fine (act text (settle k) h)
   unfolding Fine act settled settledWords
   settle-fine k h g = go (refusal Settle (h .job) (length text) (length (h .words)) k) refl
     where
@@ -59,7 +59,7 @@ module _ (text : List ℕ) (levels : ℕ) where
       go (Refused y) e = g
       go (Faulty f) e = g
 
-  level-fine : (k : ℕ) (h : Held) → Fine h → Fine (act text (level k) h)
+  pub level-fine : (k : ℕ) (h : Held) → Fine h → Fine (act text (level k) h)
   unfolding Fine act levelled levelledWords
   level-fine k h g = go (refusal Level (h .job) (length text) (length (h .words)) k) refl
     where
