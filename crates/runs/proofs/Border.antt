@@ -155,8 +155,8 @@ module _ {text : List ℕ} {c : Chunk} {s : Span} (t : Truth text c s) where
 
     -- the fault in the chunk: none, and it is clear, or the record's first
     pub data InChunk : Type 0 where
-      nothing : soughtFault c text words levels s ≡ Nothing → Clear text c s → InChunk
-      here : (f : Fault) → soughtFault c text words levels s ≡ Here f → faultOf text ≡ verdictOf f → InChunk
+      nothing : announced c ≡ false → soughtFault c text words levels s ≡ Nothing → Clear text c s → InChunk
+      here : (f : Fault) → announced c ≡ true → soughtFault c text words levels s ≡ Here f → faultOf text ≡ verdictOf f → InChunk
 
     module _ (earlier : faultOf text ≡ faultFrom text a (length text - a)) (inner : a ≤ length text) where
       reach : a + m ≡ 64 * s .to
@@ -178,7 +178,8 @@ module _ {text : List ℕ} {c : Chunk} {s : Span} (t : Truth text c s) where
           go : Walked (opener text) (closer text) a (c .start) m → Meets text (c .start) a m → InChunk
           go (stays e p low high end) (found f q z) = on-at (seek (opener text) (closer text) (c .start) a m) p q
           go (stays e p low high end) (clear g q z) =
-              nothing (not-announced c text words levels s (announced-is ∙ ap₂ _||_ (le-ltb _ _ low) (le-ltb _ _ high)))
+              let silent = announced-is ∙ ap₂ _||_ (le-ltb _ _ low) (le-ltb _ _ high) in
+              nothing silent (not-announced c text words levels s silent)
               (
               record {
                 behind = e;
@@ -189,8 +190,8 @@ module _ {text : List ℕ} {c : Chunk} {s : Span} (t : Truth text c s) where
               )
           go (meets f p out) (clear g q z) = on-at (seek (opener text) (closer text) (c .start) a m) q p
           go (meets f p out) (found g q z) =
-              here g
-              (is-announced c text words levels s (announced-is ∙ either (decLt (c .start) (dip o k m)) (decLt 64 (c .start + peak o k m))) ∙ ap ofSought (seek-is ∙ q)) (earlier ∙ z)
+              let told = announced-is ∙ either (decLt (c .start) (dip o k m)) (decLt 64 (c .start + peak o k m)) in
+              here g told (is-announced c text words levels s told ∙ ap ofSought (seek-is ∙ q)) (earlier ∙ z)
             where
               either : Dec (c .start < dip o k m) → Dec (64 < c .start + peak o k m) → (ltb (c .start) (dip o k m) || ltb 64 (c .start + peak o k m)) ≡ true
               either (yes x) y = ap (λ (b : Bool). b || ltb 64 (c .start + peak o k m)) (lt-ltb _ _ x)

@@ -2,7 +2,7 @@
 -- first fault.
 use mathlib.Core.Path.{_≡_, refl, sym, ap, ap₂, _∙_, subst}
 use mathlib.Core.Bool.{Bool, true, false, _&&_}
-use mathlib.Core.Logic.{_⊎_, inl, inr}
+use mathlib.Core.Logic.{_⊎_, inl, inr, _↔_}
 use mathlib.Core.List.{List}
 use Prim.Native.Nat.{ℕ, zero, suc, _+_, _*_, _-_, _≤_, _<_, min}
 use native.Mathlib.Nat.{le-trans}
@@ -21,7 +21,7 @@ use Rattle.index.specs.Types.{Chunk, State, Open, Stopped, Closed, Step, Scan, 
 use Rattle.index.specs.Checks.{chunksOf, chunkAt, withChunk, withState, firstWord, isLast, spanOf, settledBefore, ready, refusal}
 use Rattle.index.specs.Writing.{marksTill, levelsTill, rewritten}
 use Rattle.index.specs.Scanning.{scanWord, scanWords, scanChunk}
-use Rattle.index.specs.Settling.{maskIn, flipWord, flipWords, insideOf, startOf, guessWrong, settleWords, settleChunk, soughtFault, endFault, orElse, chunkFault, foundJob, foundBy}
+use Rattle.index.specs.Settling.{maskIn, flipWord, flipWords, insideOf, startOf, guessWrong, settleWords, settleChunk, announced, soughtFault, endFault, orElse, chunkFault, foundJob, foundBy}
 use Rattle.index.specs.Levelling.{levelWord, levelWords, levelChunk}
 use Rattle.index.proofs.CheckLaws.{Accepted, accepted, span-within}
 use Rattle.index.proofs.SettleLaws.{fault-sought}
@@ -50,6 +50,9 @@ module _ (text words : List ℕ) (levels : ℕ) (long : length words ≡ sizeOf 
       → cell (rewritten levels (widthOf (length text)) till (s .from) f words) levels (widthOf (length text)) b w ≡ cell words levels (widthOf (length text)) b w
   elsewhere b h w l (inl p) = cell-out levels (widthOf (length text)) till (s .from) f words b h w l (inl p)
   elsewhere b h w l (inr p) = cell-out levels (widthOf (length text)) till (s .from) f words b h w l (inr (le-trans (within b) p))
+
+nothing-here : {A : Type 0} {f : Fault} → Nothing ≡ Here f → A
+nothing-here e = let z : _≡_ {A = ℕ} 0 1 = cc in absurd (omega arith)
 
 same-fault : {f h : Fault} → Stopped f ≡ Stopped h → f ≡ h
 same-fault e = cc
@@ -215,10 +218,9 @@ module _ {text : List ℕ} {levels : ℕ} {j : Job} {words : List ℕ} (g : Good
       settle-words-is true q =
           let same : settleWords j text words k ≡ rewritten levels (widthOf (length text)) (marksTill 0 (s .to)) (s .from) (flipWord words levels (length text)) words =
           rw q (ap (λ (y : ℕ). rewritten y (widthOf (length text)) (marksTill 0 (s .to)) (s .from) (flipWord words y (length text)) words) deep) in
-          let within = marks-till 0 (s .to) (s .to) (omega arith) (omega arith) in
-          (
+          let within = marks-till 0 (s .to) (s .to) (omega arith) (omega arith) in (
             ap length same ∙ as-long text words levels (g .shape .long) s (marksTill 0 (s .to)) (flipWord words levels (length text)) within,
-            λ b h w m p. ap (λ (y : List ℕ). cell y levels (widthOf (length text)) b w) same ∙ elsewhere text words levels (g .shape .long) s (marksTill 0 (s .to)) (flipWord words levels (length text)) within b h w m p
+            λ b h w m p. ap (λ (y : List ℕ). cell y levels (widthOf (length text)) b w) same ∙ elsewhere text words levels (g .shape .long) s (marksTill 0 (s .to)) (flipWord words levels (length text)) within b h w m p,
           )
       settle-words-is false q =
           let same : settleWords j text words k ≡ words = rw q in
@@ -271,10 +273,19 @@ module _ {text : List ℕ} {levels : ℕ} {j : Job} {words : List ℕ} (g : Good
 
       found-here : InChunk truth after levels order (settle-bits text levels j words k deep inside (g .ok k l) scanned-first unset (at-border .inside-there) (at-border .depth-there) (at-border .shallow-there))
           → Good text levels (foundJob (foundBy j text after k) (withChunk j k (settleChunk j text after k))) after
-      found-here (nothing p clear) = go-on p clear (ℕ-discrete (suc k) (j .count))
-      found-here (here f p q) =
+      found-here (nothing silent p clear) = go-on p clear (ℕ-discrete (suc k) (j .count))
+      found-here (here f told p q) =
           subst (λ (z : Found). Good text levels (foundJob z (withChunk j k (settleChunk j text after k))) after) (sym (found-is ∙ fault-sought (settleChunk j text after k) text after levels s (isLast j k) (Here f) p))
           (settled-to (Stopped f) (λ o. never o refl) (λ o r. never o refl) (λ h r. q ∙ ap verdictOf (same-fault r)) (λ r. stopped-closed r))
 
     pub settle-good : Good text levels (foundJob (foundBy j text (settleWords j text words k) k) (withChunk j k (settleChunk j text (settleWords j text words k) k))) (settleWords j text words k)
     settle-good = found-here (acc .untaken) (seen (acc .untaken))
+
+    -- the kept counts announce a fault exactly when the walk over the chunk finds its place
+    pub announced-found : (announced (settleChunk j text after k) ≡ true) ↔ ((f : Fault) × (soughtFault (settleChunk j text after k) text after levels s ≡ Here f))
+    announced-found = go (seen (acc .untaken))
+      where
+        go : InChunk (truth (acc .untaken)) after levels (order (acc .untaken)) (settle-bits text levels j words k deep inside (g .ok k l) scanned-first (acc .untaken) (at-border .inside-there) (at-border .depth-there) (at-border .shallow-there))
+            → (announced (settleChunk j text after k) ≡ true) ↔ ((f : Fault) × (soughtFault (settleChunk j text after k) text after levels s ≡ Here f))
+        go (nothing silent p clear) = (λ told. clash _ told silent, λ f. nothing-here (sym p ∙ f .1))
+        go (here f told p q) = (λ x. (f, p), λ x. told)

@@ -39,7 +39,7 @@ module _ {text : List ℕ} {levels : ℕ} {j : Job} {words : List ℕ} (g : Good
     (cut : c .cut ≡ chunkAt j k .cut)
     (long : length after ≡ length words)
     (frame : (b : Bitmap) → Has levels b → (w : ℕ) → w < widthOf (length text) → (w < spanOf j (length text) k .from) ⊎ (spanOf j (length text) k .to ≤ w)
-      → cell after levels (widthOf (length text)) b w ≡ cell words levels (widthOf (length text)) b w)
+    → cell after levels (widthOf (length text)) b w ≡ cell words levels (widthOf (length text)) b w)
     (new-ok : ChunkOk text levels (cell after levels (widthOf (length text))) c (spanOf j (length text) k))
     (in-order : c .settled ≡ true → settledBefore j k ≡ true)
     (stays : chunkAt j k .settled ≡ true → c .settled ≡ true)
@@ -121,8 +121,20 @@ module _ {text : List ℕ} {levels : ℕ} {j : Job} {words : List ℕ} (g : Good
   next-shape =
       let s = shape-chunk text levels j words after k c (g .shape) few cut long in
       record {
-        own = s .own; deep = s .deep; some = s .some; few = s .few; filled = s .filled; small = s .small; long = s .long; one = s .one; many = s .many; room = s .room; first = s .first;
-        even = s .even; inner = s .inner; rising = s .rising;
+        own = s .own;
+        deep = s .deep;
+        some = s .some;
+        few = s .few;
+        filled = s .filled;
+        small = s .small;
+        long = s .long;
+        one = s .one;
+        many = s .many;
+        room = s .room;
+        first = s .first;
+        even = s .even;
+        inner = s .inner;
+        rising = s .rising;
       }
 
   pub good-step : Good text levels next after

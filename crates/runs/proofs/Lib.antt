@@ -12,3 +12,5 @@ pub mod Calls
 pub mod Reach
 pub mod Theorems
 pub mod Progress
+pub mod Refused
+pub mod Example

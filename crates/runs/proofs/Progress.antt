@@ -2,7 +2,7 @@
 -- that are left; then close is accepted. So every run can be brought to a close.
 use mathlib.Core.Path.{_≡_, refl, sym, ap, ap₂, _∙_, subst}
 use mathlib.Core.Bool.{Bool, true, false, not, _&&_}
-use mathlib.Core.Logic.{_⊎_, inl, inr}
+use mathlib.Core.Logic.{_⊎_, inl, inr, _↔_}
 use mathlib.Core.List.{List, [], _∷_, _++_}
 use Prim.Native.Nat.{ℕ, zero, suc, pred, _+_, _*_, _≤_, _<_}
 use native.Mathlib.Decide.{ℕ-discrete}
@@ -14,10 +14,10 @@ use Rattle.index.specs.declared.Answer.{Answer}
 use Rattle.index.specs.declared.Answer.the-variants.{Done, Refused, Faulty}
 use Rattle.index.specs.declared.Fault.{Fault}
 use Rattle.index.specs.declared.Job.{Job}
-use Rattle.index.specs.Types.{Chunk, State, Open, Stopped, Closed, Step, Scan, Settle, Level, Found}
-use Rattle.index.specs.Checks.{chunksOf, chunkAt, withChunk, settledBefore, taken, ready, sameLengths, refusal}
+use Rattle.index.specs.Types.{Chunk, State, Open, Stopped, Closed, Step, Scan, Settle, Level, Found, Here}
+use Rattle.index.specs.Checks.{chunksOf, chunkAt, withChunk, spanOf, settledBefore, taken, ready, sameLengths, refusal}
 use Rattle.index.specs.Scanning.{scanChunk, scanned}
-use Rattle.index.specs.Settling.{settleChunk, settleWords, foundBy, foundJob, foundAnswer, settled}
+use Rattle.index.specs.Settling.{settleChunk, settleWords, announced, soughtFault, foundBy, foundJob, settled}
 use Rattle.index.specs.Levelling.{levelChunk, levelled}
 use Rattle.index.specs.Closing.{every, allLevelled, closing, closed}
 use Rattle.index.proofs.CheckLaws.{Accepted, accepted, if-done}
@@ -29,6 +29,7 @@ use Rattle.runs.proofs.Spans.{Shape, count-is, chunk-new, chunk-old}
 use Rattle.runs.proofs.Steps.{clash}
 use Rattle.runs.proofs.Good.{Good}
 use Rattle.index.proofs.NumberLaws.{settle-fault}
+use Rattle.runs.proofs.Calls.{announced-found}
 use Rattle.runs.proofs.Reach.{Fine, scan-fine, settle-fine, level-fine}
 use Rattle.runs.proofs.Theorems.{good, stopped-named, lengths-exactly, sound-faulty}
 
@@ -223,3 +224,10 @@ unfolding answer settled
 settle-done {text} {levels} {h} s r k e =
     found-case (λ x. foundBy (h .job) text (settleWords (h .job) text (h .words) k) k ≡ x → answer text (settle k) h ≡ Done) (λ q. rw (e, q) refl)
     (λ f q. sound-faulty f (sym s ∙ settle-named r k f (rw (e, q) refl))) (foundBy (h .job) text (settleWords (h .job) text (h .words) k) k) refl
+
+-- the kept counts announce a fault in the chunk exactly when its place is found
+pub announced-exactly : {text : List ℕ} {levels : ℕ} {h : Held} → Reached text levels h → (k : ℕ) → refusal Settle (h .job) (length text) (length (h .words)) k ≡ Done
+    → let after = settleWords (h .job) text (h .words) k in
+    let c = settleChunk (h .job) text after k in
+    (announced c ≡ true) ↔ ((f : Fault) × (soughtFault c text after levels (spanOf (h .job) (length text) k) ≡ Here f))
+announced-exactly {text} {levels} {h} r k e = announced-found (g r (accepted Settle (h .job) (length text) (length (h .words)) k e .opened)) k e

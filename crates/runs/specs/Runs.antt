@@ -13,6 +13,7 @@ use Rattle.rules.specs.Faults.{Verdict, faulty}
 use Rattle.index.specs.Types.{Chunk, Scan, Settle, Level}
 use Rattle.index.specs.Checks.{chunkAt, refusal}
 use Rattle.index.specs.Answers.{faultNumber, faultPlace}
+use Rattle.index.specs.Numbers.{Refuses}
 use Rattle.index.specs.Opening.{opening, opened}
 use Rattle.index.specs.Scanning.{scanned, scannedWords}
 use Rattle.index.specs.Settling.{settled, settledWords}
@@ -94,3 +95,8 @@ pub data Next (text : List ℕ) (h : Held) : Call → Type 0 where
   scan-next : (k : ℕ) (g : Bool) → refusal Scan (h .job) (length text) (length (h .words)) k ≡ Done → Next text h (scan k g)
   settle-next : (k : ℕ) → refusal Settle (h .job) (length text) (length (h .words)) k ≡ Done → Next text h (settle k)
   level-next : (k : ℕ) → refusal Level (h .job) (length text) (length (h .words)) k ≡ Done → Next text h (level k)
+
+-- calls none of which is refused
+pub data Accepts (text : List ℕ) : List Call → Held → Type 0 where
+  none : {h : Held} → Accepts text [] h
+  more : {c : Call} {cs : List Call} {h : Held} → (Refuses (answer text c h) → ⊥) → Accepts text cs (act text c h) → Accepts text (c ∷ cs) h
