@@ -3,10 +3,8 @@
 use mathlib.Core.Path.{_≡_, refl, sym, _∙_}
 use mathlib.Core.Bool.{Bool, true, false}
 use mathlib.Core.List.{List}
-use Prim.Native.Nat.{ℕ, _≤_, _<_}
+use Prim.Native.Nat.{ℕ, _<_}
 use native.Mathlib.Omega.{arith}
-use native.Mathlib.Decide.{decLt}
-use native.Mathlib.Nat.{lt-of-not-le}
 use lib.ListN.{length}
 use Rattle.rules.specs.Word.{pick}
 use Rattle.rules.specs.Layout.{Bitmap, quotes, mask, colons, commas, widthOf, sizeOf, cell}
@@ -23,15 +21,8 @@ use Rattle.index.specs.Scanning.{scanWords, scannedWords}
 use Rattle.index.specs.Settling.{flipWords, guessWrong, settleWords, settledWords}
 use Rattle.index.specs.Levelling.{levelWords, levelledWords}
 use Rattle.index.specs.Frames.{writes, Frame}
-use Rattle.index.proofs.WriteLaws.{over-below, over-above}
+use Rattle.index.proofs.WriteLaws.{over-out}
 use Rattle.index.proofs.StepLaws.{fitting}
-
-over-out : (till : Bitmap → ℕ) (from : ℕ) (f old : Bitmap → ℕ → ℕ) (b : Bitmap) (w : ℕ) → (from ≤ w → w < till b → ⊥) → over till from f old b w ≡ old b w
-over-out till from f old b w n = go (decLt w from)
-  where
-    go : Dec (w < from) → over till from f old b w ≡ old b w
-    go (yes l) = over-below till from f old b w l
-    go (no m) = let h : from ≤ w = omega (arith, lt-of-not-le m) in over-above till from f old b w (omega (arith, n h))
 
 module _ (s : Step) (j : Job) (n k : ℕ) (words : List ℕ) where
   pub frame-none : Frame s j n k words words

@@ -12,10 +12,9 @@ use lib.Dec.{ltb}
 use Rattle.rules.specs.Word.{xor, odd, count}
 use Rattle.rules.specs.Bytes.{Class, opens, closes, is, has}
 use Rattle.rules.specs.Bits.{quoteBit, plain}
-use Rattle.rules.specs.Layout.{Bitmap, quotes, mask, colons, commas, widthOf, cell}
+use Rattle.rules.specs.Layout.{Bitmap, quotes, mask, colons, commas, widthOf}
 use Rattle.rules.proofs.Counting.{count-ext}
 use Rattle.rules.proofs.WordLaws.{wordAt-ext}
-use Rattle.rules.proofs.LayoutLaws.{laid-cells, cells-only}
 use Rattle.rules.proofs.LocalLaws.{SameBytes, quote-local}
 use Rattle.index.specs.declared.checks.Span.{Span}
 use Rattle.index.specs.declared.Step.the-variants.{Scan}
@@ -26,30 +25,12 @@ use Rattle.index.specs.Answers.{onDone}
 use Rattle.index.specs.Checks.{chunkAt, withChunk, spanOf, refusal}
 use Rattle.index.specs.Depth.{keptOf}
 use Rattle.index.specs.Guessing.{guessed, guessBit}
-use Rattle.index.specs.Writing.{over, rewritten, marksTill}
+use Rattle.index.specs.Writing.{rewritten, marksTill}
 use Rattle.index.specs.Scanning.{swingBy, scanWord, scanWords, oddIn, scanKept, scanChunk, scanned, scannedWords}
 use Rattle.index.specs.Frames.{SameChunk}
 use Rattle.index.proofs.AnswerLaws.{handed}
 use Rattle.index.proofs.SwingLaws.{swing-ext}
-use Rattle.index.proofs.WriteLaws.{over-in, over-below, over-above}
-
--- words rewritten by two rules that say the same of each word that is written
-rewritten-ext : (levels width : ℕ) (till : Bitmap → ℕ) (from : ℕ) (f g : Bitmap → ℕ → ℕ) (words : List ℕ) → ((b : Bitmap) (w : ℕ) → from ≤ w → w < till b → f b w ≡ g b w)
-    → rewritten levels width till from f words ≡ rewritten levels width till from g words
-unfolding rewritten
-rewritten-ext levels width till from f g words same = cells-only levels width (laid-cells levels width _) (laid-cells levels width _) (λ b h w l. go b w (decLt w from) (decLt w (till b)))
-  where
-    old : Bitmap → ℕ → ℕ
-    old = cell words levels width
-
-    go : (b : Bitmap) (w : ℕ) → Dec (w < from) → Dec (w < till b) → over till from f old b w ≡ over till from g old b w
-    go b w (yes l) d = over-below till from f old b w l ∙ sym (over-below till from g old b w l)
-    go b w (no n) (yes l) =
-        let h : from ≤ w = omega (arith, lt-of-not-le n) in
-        over-in till from f old b w h l ∙ same b w h l ∙ sym (over-in till from g old b w h l)
-    go b w (no n) (no m) =
-        let h : till b ≤ w = omega (arith, lt-of-not-le m) in
-        over-above till from f old b w h ∙ sym (over-above till from g old b w h)
+use Rattle.index.proofs.WriteLaws.{rewritten-ext}
 
 -- the places of the chunk: a is its first, and it has m of them
 module _ (chunk : Span) (text also : List ℕ) (same : SameChunk chunk text also) where
