@@ -1,0 +1,5 @@
+-- Laws for the functions' proofs.
+pub mod Turns
+pub mod Jobs
+pub mod Telling
+pub mod Inputs
