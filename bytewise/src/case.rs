@@ -123,6 +123,18 @@ impl Case {
         number
     }
 
+    /// A record of one byte more than the limit, asked for `$` and then opened. It is too long to be written down.
+    pub fn beyond(&mut self, levels: usize) {
+        self.head(b'B', 0, levels, 0, 0);
+        let record = vec![b' '; 16_777_217];
+        let (number, start, end) = query(&record, &self.words, levels, b"$");
+        self.seen[number as usize] += 1;
+        self.line.push_str(&format!(" {number}@{start}+{}", end - start));
+        let ((number, place), job) = open(&record, self.words.len(), levels, &[64]);
+        self.job = job;
+        self.told(number, place, self.words.len());
+    }
+
     pub fn end(&mut self) {
         self.head(b'E', 0, 0, 0, 0);
         let digest = self.digest;

@@ -334,10 +334,67 @@ fn random_case(random: &mut Random) -> Case {
     case
 }
 
+/// A record above the limit: 2, by a query and by an opening.
+fn beyond() -> Case {
+    let mut case = Case::new();
+    case.set_words(8, 3);
+    case.beyond(1);
+    case.ask(0);
+    case.close(0);
+    case.end();
+    case
+}
+
+/// What the showing program may be given.
+pub fn inputs(seed: u64, count: usize) -> Vec<Vec<u8>> {
+    let mut random = Random::new(seed);
+    let mut list = vec![Vec::new(), b"$".to_vec(), b"\n".to_vec(), b"$\n".to_vec(), b"\n[]".to_vec(), b"$[\n]".to_vec(), b"$.\n[]".to_vec()];
+    let filled = |path: usize, feed: bool, record: usize| {
+        let mut input = vec![b'$'; path.min(1)];
+        while input.len() + 3 <= path {
+            input.extend_from_slice(b"[0]");
+        }
+        input.resize(path, b'x');
+        if feed {
+            input.push(b'\n');
+        }
+        input.extend(std::iter::repeat(b'1').take(record));
+        input
+    };
+    for path in [1, 4, 1021, 1022, 1023, 1024, 1025, 1026, 3000] {
+        for record in [0, 1, 1023, 1024, 1025, 16383, 16384, 16385, 70000] {
+            list.push(filled(path, true, record));
+        }
+        list.push(filled(path, false, 0));
+    }
+    for _ in 0..count {
+        let text = text(&mut random);
+        let path = path(&mut random, &text.paths);
+        let times = if random.chance(1, 5) { 1 + 4000 / (text.bytes.len() + 1) } else { 1 };
+        let record = if times > 1 { repeated(&text.bytes, times) } else { text.bytes };
+        list.push([&path[..], b"\n", &record].concat());
+    }
+    list
+}
+
+/// An array of so many copies, for records over many chunks.
+fn repeated(text: &[u8], times: usize) -> Vec<u8> {
+    let mut record = b"[".to_vec();
+    for i in 0..times {
+        if i > 0 {
+            record.push(b',');
+        }
+        record.extend_from_slice(text);
+    }
+    record.push(b']');
+    record
+}
+
 /// The cases of every list, and so many random ones.
-pub fn all(seed: u64, count: usize) -> impl Iterator<Item = Case> {
+pub fn all(seed: u64, count: usize, with_beyond: bool) -> impl Iterator<Item = Case> {
     let mut random = Random::new(seed);
     let mut listed = reports();
+    listed.extend(with_beyond.then(beyond));
     listed.extend(runs(&mut random));
     listed.extend(borders());
     listed.extend(faults());

@@ -3,3 +3,4 @@ pub mod Turns
 pub mod Jobs
 pub mod Telling
 pub mod Inputs
+pub mod Enough

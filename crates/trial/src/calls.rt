@@ -79,21 +79,38 @@ fn ask(job: Job, k: usize) {
     }
 }
 
+fn tell_part(text: &[u8], words: &[u64], levels: usize, path: &[u8]) {
+    let mut number = 0;
+    let mut place = 0;
+    let part = query::query(text, words, levels, path, &mut number, &mut place);
+    tell_two(number, place, part.len());
+}
+
 // Q: with the path that follows.
 fn ask_path(head: Head, text: &[u8], words: &[u64]) {
     let mut bytes = io::buffer();
     let got = read_bytes(head.length, &mut bytes);
-    let mut number = 0;
-    let mut place = 0;
-    let part = query::query(
-        text,
-        words,
-        head.levels,
-        &bytes[..got],
-        &mut number,
-        &mut place,
-    );
-    tell_two(number, place, part.len());
+    tell_part(text, words, head.levels, &bytes[..got]);
+}
+
+fn ask_and_open(text: &[u8], levels: usize, words: &[u64], digest: &mut u64) -> Job {
+    tell_part(text, words, levels, b"$");
+    told(Job::open(text, words, levels, &[64usize; 1]), words, digest)
+}
+
+// A record above the limit, of blanks.
+fn beyond(levels: usize, words: &[u64], digest: &mut u64) -> Job {
+    let text = [32u8; 16777217];
+    ask_and_open(&text, levels, words, digest)
+}
+
+// B: that, and as often more as the flag says. A function that calls itself keeps the 16 MiB out of the other functions' frames,
+// so that where no B comes no large stack is needed.
+fn beyond_again(more: usize, levels: usize, words: &[u64], digest: &mut u64) -> Job {
+    if 0 < more {
+        beyond_again(more - 1, levels, words, digest);
+    }
+    beyond(levels, words, digest)
 }
 
 fn lend(job: Job, head: Head, text: &[u8], words: &mut [u64], digest: &mut u64) -> Job {
@@ -108,12 +125,15 @@ fn lend(job: Job, head: Head, text: &[u8], words: &mut [u64], digest: &mut u64) 
         ask_path(head, text, words);
         return job;
     }
+    if head.letter == b'B' {
+        return beyond_again(head.flag as usize, head.levels, words, digest);
+    }
     job_call(job, head, text, words, digest)
 }
 
 fn is_call(letter: u8) -> bool {
     match letter {
-        b'O' | b'S' | b'T' | b'L' | b'C' | b'A' | b'Q' => true,
+        b'O' | b'S' | b'T' | b'L' | b'C' | b'A' | b'Q' | b'B' => true,
         _ => false,
     }
 }
