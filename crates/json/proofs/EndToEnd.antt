@@ -2,9 +2,6 @@
 use mathlib.Core.Path.{_≡_, refl, sym, _∙_}
 use mathlib.Core.List.{List}
 use Prim.Native.Nat.{ℕ}
-use native.Mathlib.Omega.{arith}
-use lib.ListN.{length}
-use Rattle.rules.specs.Faults.{sound, faultOf}
 use Rattle.index.specs.declared.Answer.{Answer}
 use Rattle.index.specs.declared.Answer.the-variants.{Done}
 use Rattle.runs.specs.Runs.{Ends, ClosedRun}
@@ -12,7 +9,7 @@ use Rattle.runs.proofs.Theorems.{was-good, sound-faulty, bits, fault-named}
 use Rattle.query.specs.Grammar.{Selector}
 use Rattle.query.specs.Answers.{answerOf}
 use Rattle.json.specs.Select.{select}
-use Rattle.json.specs.Demand2.{Obeys, root, Within, Asked, Selects}
+use Rattle.json.specs.Demand2.{root, Within, Asked, Selects}
 use Rattle.json.specs.EndToEnd.{Demand2}
 use Rattle.json.proofs.Paths.{claim}
 

@@ -1,6 +1,5 @@
 -- What can be read of lent words: a word's address lies among them, and every bitmap of a level can be read up to the record's end.
 use Prim.Native.Nat.{ℕ, _+_, _*_, _≤_, _<_}
-use mathlib.Core.Path.{_≡_, subst}
 use mathlib.Core.List.{List}
 use native.Mathlib.Omega.{arith}
 use native.Mathlib.Nat.{mul-le-mul-right}

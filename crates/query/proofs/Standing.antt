@@ -5,57 +5,21 @@ use mathlib.Core.Path.{_≡_, refl, sym, ap, _∙_}
 use mathlib.Core.Bool.{Bool, true, false, true≢false}
 use mathlib.Core.List.{List}
 use native.Mathlib.Omega.{arith}
-use native.Mathlib.Nat.{div-one, zero-div, div-eq-of-lt, div-le-self, lt-of-lt-of-le, lt-of-le-of-lt, lt-of-not-le, pow-suc}
-use native.Mathlib.Numerals.{one-add}
+use native.Mathlib.Nat.{zero-div, div-le-self, lt-of-le-of-lt, lt-of-not-le}
 use lib.ListN.{getD}
-use lib.Dec.{eqb}
-use lib.Pow.{shr-shr, shr-le, pow-mono}
-use lib.Count.{ones, trailingZeros, under}
+use lib.Pow.{shr-le}
+use lib.Count.{ones, trailingZeros}
 use Rattle.rules.specs.Word.{digit, count, bit}
 use Rattle.rules.specs.Layout.{Bitmap, address, bitIn, cell}
+use Rattle.rules.proofs.BitWalk.{bit-shifted, bit-above, lowest}
 use Rattle.rules.proofs.WordLaws.{word-bits, ones-word}
 use Rattle.rules.proofs.Counting.{count-ext, count-cat}
 
 -- ---- the bits of a number
 
-pub bit-shifted : (x s j : ℕ) → bit (x / 2 ^ s) j ≡ bit x (s + j)
-unfolding bit
-bit-shifted x s j = rw shr-shr
-
-bit-zero : (x : ℕ) → bit x 0 ≡ eqb (x % 2) 1
-unfolding bit
-bit-zero x = rw div-one
-
-bit-suc : (x j : ℕ) → bit x (suc j) ≡ bit (x / 2) j
-bit-suc x j = ap (bit x) (sym (one-add j)) ∙ sym (bit-shifted x 1 j)
-
 bit-none : (j : ℕ) → bit 0 j ≡ false
 unfolding bit
 bit-none j = rw zero-div
-
--- a number below 2 ^ k has no bit at k or above
-bit-above : (k x j : ℕ) → x < 2 ^ k → k ≤ j → bit x j ≡ false
-unfolding bit
-bit-above k x j h l = let z : x / 2 ^ j ≡ 0 = div-eq-of-lt (lt-of-lt-of-le h (pow-mono l)) in rw z
-
-Low : ℕ → ℕ → ℕ → Type 0
-Low k x t = (t < k) × (bit x t ≡ true) × ((j : ℕ) → j < t → bit x j ≡ false)
-
-low-step : (k x d t : ℕ) → x % 2 ≡ d → (d ≡ 0 → Low k (x / 2) t) → Low (suc k) x (under d t)
-unfolding Low
-low-step k x zero t e ih =
-    let l = ih refl in
-    (omega (arith, l .0), bit-suc x t ∙ l .1, λ j. elim j [ zero ↦ λ _. bit-zero x ∙ ap (λ (n : ℕ). eqb n 1) e | suc i ↦ λ m. bit-suc x i ∙ l .2 i (omega arith) ])
-low-step k x (suc d) t e ih =
-    let one : x % 2 ≡ 1 = omega arith in
-    (omega arith, bit-zero x ∙ ap (λ (n : ℕ). eqb n 1) one, λ j m. absurd (omega arith))
-
--- of a number that is not 0, the trailing zeros are the place of its lowest set bit
-pub lowest : (k x : ℕ) → 0 < x → x < 2 ^ k
-    → (trailingZeros k x < k) × (bit x (trailingZeros k x) ≡ true) × ((j : ℕ) → j < trailingZeros k x → bit x j ≡ false)
-unfolding trailingZeros Low
-lowest zero x p h = absurd (omega arith)
-lowest (suc k) x p h = low-step k x (x % 2) (trailingZeros k (x / 2)) refl (λ e. lowest k (x / 2) (omega arith) (omega (arith, pow-suc 2 k)))
 
 pub count-none : (p : ℕ → Bool) (d : ℕ) → ((j : ℕ) → j < d → p j ≡ false) → count p d ≡ 0
 unfolding count

@@ -9,12 +9,12 @@ use native.Mathlib.Decide.{decLt}
 use native.Mathlib.Omega.{arith}
 use borrow.Author.Tests.{eq-eqb, ne-eqb, lt-ltb, le-ltb}
 use lib.ListN.{length}
-use lib.IntN.{pos, subℕ, _+ℤ_}
+use lib.IntN.{pos, _+ℤ_}
 use lib.Dec.{eqb, ltb}
 use Rattle.rules.specs.Word.{pick, xor, odd, count}
 use Rattle.rules.specs.Bytes.{opens, closes, has}
-use Rattle.rules.specs.Bits.{quoteBit, inString, maskBit, plain, opener, closer, atDepth}
-use Rattle.rules.specs.Faults.{Verdict, sound, faulty, atEnd, faultFrom, faultOf}
+use Rattle.rules.specs.Bits.{inString, maskBit, plain, opener, closer, atDepth}
+use Rattle.rules.specs.Faults.{sound, atEnd, faultFrom, faultOf}
 use Rattle.rules.proofs.Booleans.{bool2}
 use Rattle.rules.proofs.Counting.{count-cat}
 use Rattle.rules.proofs.RuleLaws.{inString-add, plain-apart}
@@ -25,16 +25,15 @@ use Rattle.index.specs.Types.{Chunk}
 use Rattle.index.specs.Types.{Span}
 use Rattle.index.specs.Types.{Sought}
 use Rattle.index.specs.Types.{On, At}
-use Rattle.index.specs.Types.{Found}
 use Rattle.index.specs.Types.{Nothing, Here}
 use Rattle.index.specs.Swinging.{dip, peak, swing}
 use Rattle.index.specs.Depth.{keptOf, belowZero, above64, clampDepth}
 use Rattle.index.specs.Scanning.{swingBy, oddIn}
-use Rattle.index.specs.Settling.{limitOf, faultOfBracket, depthPast, maskIn, seek, seekIn, announced, ofSought, soughtFault, endFault, orElse, chunkFault}
+use Rattle.index.specs.Settling.{limitOf, faultOfBracket, depthPast, maskIn, seek, seekIn, announced, ofSought, soughtFault, endFault}
 use Rattle.index.proofs.SwingLaws.{dip-ge, peak-ge}
 use Rattle.index.proofs.DepthLaws.{falls-is, climbs-is, depth-is}
 use Rattle.index.proofs.SeekLaws.{seek-on, seek-at, seek-over}
-use Rattle.index.proofs.SettleLaws.{end-string, end-bracket, end-none, not-announced, is-announced, fault-sought}
+use Rattle.index.proofs.SettleLaws.{end-string, end-bracket, end-none, not-announced, is-announced}
 use Rattle.runs.specs.Runs.{verdictOf}
 use Rattle.runs.proofs.Walks.{Walked, stays, meets, walked, Depth, Told, goes-on, stops, told}
 use Rattle.runs.proofs.Past.{opener-past, closer-past, inString-past, openers-past, closers-past}

@@ -4,31 +4,30 @@ use mathlib.Core.Path.{_≡_, refl, sym, ap, ap₂, _∙_, subst}
 use mathlib.Core.Bool.{Bool, true, false, _&&_}
 use mathlib.Core.Logic.{_⊎_, inl, inr, _↔_}
 use mathlib.Core.List.{List}
-use Prim.Native.Nat.{ℕ, zero, suc, _+_, _*_, _-_, _≤_, _<_, min}
+use Prim.Native.Nat.{ℕ, zero, suc, _*_, _-_, _≤_, _<_, min}
 use native.Mathlib.Nat.{le-trans}
 use native.Mathlib.Decide.{ℕ-discrete}
 use native.Mathlib.Omega.{arith}
 use lib.ListN.{length}
-use Rattle.rules.specs.Word.{pick, xor, odd, count}
-use Rattle.rules.specs.Bits.{inString, opener, closer, maskBit}
+use Rattle.rules.specs.Word.{pick, odd, count}
+use Rattle.rules.specs.Bits.{inString}
 use Rattle.rules.specs.Faults.{sound, atEnd, faultFrom, faultOf}
 use Rattle.rules.specs.Layout.{Bitmap, widthOf, sizeOf, Has, cell}
-use Rattle.index.specs.declared.Answer.{Answer}
-use Rattle.index.specs.declared.Answer.the-variants.{Done, Faulty}
+use Rattle.index.specs.declared.Answer.the-variants.{Done}
 use Rattle.index.specs.declared.Fault.{Fault}
 use Rattle.index.specs.declared.Job.{Job}
 use Rattle.index.specs.Types.{Chunk, State, Open, Stopped, Closed, Step, Scan, Settle, Level, Span, Found, Nothing, Here}
-use Rattle.index.specs.Checks.{chunksOf, chunkAt, withChunk, withState, firstWord, isLast, spanOf, settledBefore, ready, refusal}
+use Rattle.index.specs.Checks.{chunkAt, withChunk, withState, firstWord, isLast, spanOf, settledBefore, refusal}
 use Rattle.index.specs.Writing.{marksTill, levelsTill, rewritten}
 use Rattle.index.specs.Scanning.{scanWord, scanWords, scanChunk}
-use Rattle.index.specs.Settling.{maskIn, flipWord, flipWords, insideOf, startOf, guessWrong, settleWords, settleChunk, announced, soughtFault, endFault, orElse, chunkFault, foundJob, foundBy}
+use Rattle.index.specs.Settling.{flipWord, flipWords, insideOf, startOf, guessWrong, settleWords, settleChunk, announced, soughtFault, endFault, chunkFault, foundJob, foundBy}
 use Rattle.index.specs.Levelling.{levelWord, levelWords, levelChunk}
 use Rattle.index.proofs.CheckLaws.{Accepted, accepted, span-within}
 use Rattle.index.proofs.SettleLaws.{fault-sought}
 use Rattle.runs.specs.Runs.{verdictOf}
 use Rattle.runs.proofs.Walks.{Depth}
-use Rattle.runs.proofs.Truth.{In, Truth, ChunkOk, Clear}
-use Rattle.runs.proofs.Spans.{Shape, count-is, from-cut, from-zero, is-last, not-last, last-to, next-to, nonempty}
+use Rattle.runs.proofs.Truth.{Truth, Clear}
+use Rattle.runs.proofs.Spans.{count-is, from-cut, from-zero, is-last, not-last, last-to, next-to, nonempty}
 use Rattle.runs.proofs.Border.{inside-behind, depth-behind, InChunk, nothing, here, in-chunk, AtLast, well, ill, at-last}
 use Rattle.runs.proofs.Words.{new-cells, cell-out, marks-till, levels-till}
 use Rattle.runs.proofs.Steps.{clash, unsettled, scan-ok, settle-bits, settle-truth, settle-ok, level-ok}

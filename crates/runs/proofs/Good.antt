@@ -1,10 +1,10 @@
 -- What is true of every job that calls have led to and that is not closed: its shape, each chunk by its steps, the settled ones a front part
 -- without a fault, and a stopped job's fault the record's first. Any step on one chunk that keeps its own part keeps it all.
-use mathlib.Core.Path.{_≡_, refl, sym, ap, ap₂, _∙_, subst, subst₂}
-use mathlib.Core.Bool.{Bool, true, false}
+use mathlib.Core.Path.{_≡_, refl, sym, ap, _∙_, subst, subst₂}
+use mathlib.Core.Bool.{true}
 use mathlib.Core.Logic.{_⊎_, inl, inr}
 use mathlib.Core.List.{List}
-use Prim.Native.Nat.{ℕ, zero, suc, _+_, _*_, _-_, _≤_, _<_}
+use Prim.Native.Nat.{ℕ, suc, _-_, _≤_, _<_}
 use native.Mathlib.Decide.{ℕ-discrete, decLt}
 use native.Mathlib.Nat.{lt-of-not-le}
 use native.Mathlib.Omega.{arith}
@@ -16,9 +16,9 @@ use Rattle.index.specs.declared.Job.{Job}
 use Rattle.index.specs.Types.{Chunk, State, Open, Stopped, Closed, Span}
 use Rattle.index.specs.Checks.{chunksOf, chunkAt, withChunk, withState, firstWord, isLast, spanOf, settledBefore}
 use Rattle.index.proofs.CheckLaws.{span-within}
-use Rattle.runs.specs.Runs.{Held, verdictOf}
+use Rattle.runs.specs.Runs.{verdictOf}
 use Rattle.runs.proofs.Truth.{In, ChunkOk, ok-frame, Clear}
-use Rattle.runs.proofs.Spans.{Shape, nonempty, apart, in-chunk, chunk-new, chunk-old, span-same, shape-chunk}
+use Rattle.runs.proofs.Spans.{Shape, apart, chunk-new, chunk-old, span-same, shape-chunk}
 
 pub record Good (text : List ℕ) (levels : ℕ) (j : Job) (words : List ℕ) : Type 0 where
   pub shape : Shape text levels j words

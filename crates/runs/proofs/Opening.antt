@@ -1,20 +1,19 @@
 -- An accepted opening gives a good job: its cuts are lawful, and no chunk has had a step.
-use mathlib.Core.Path.{_≡_, refl, sym, ap, ap₂, _∙_, subst}
-use mathlib.Core.Bool.{Bool, true, false, not, _||_}
+use mathlib.Core.Path.{_≡_, refl, sym, ap, _∙_, subst}
+use mathlib.Core.Bool.{Bool, true, false}
 use mathlib.Core.List.{List}
 use Prim.Native.Nat.{ℕ, zero, suc, _+_, _%_, _≤_, _<_}
 use native.Mathlib.Decide.{ℕ-discrete}
 use native.Mathlib.Omega.{arith}
-use native.Mathlib.Numerals.{add-one}
 use borrow.Author.Tests.{eqb-true, eqb-false, leb-false, not-false}
-use lib.ListN.{length, getD, set, replicate, length-set, length-replicate, getD-replicate}
+use lib.ListN.{length, getD, length-set, length-replicate, getD-replicate}
 use lib.Seq.{getD-set-same, getD-set-other}
 use lib.Dec.{eqb, leb}
 use Rattle.rules.specs.Word.{pick}
 use Rattle.rules.specs.Layout.{Bitmap, widthOf, cell}
 use Rattle.index.specs.declared.Answer.the-variants.{Done}
 use Rattle.index.specs.declared.Job.{Job}
-use Rattle.index.specs.Types.{Chunk, State, Open, Span}
+use Rattle.index.specs.Types.{Chunk, Span}
 use Rattle.index.specs.Checks.{fresh, chunkAt, spanOf}
 use Rattle.index.specs.Opening.{notAbove, badCut, first, firstBad, opening, blank, cutUpTo, openJob, opened}
 use Rattle.index.proofs.OpenLaws.{Openable, openable}

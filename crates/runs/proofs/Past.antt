@@ -1,12 +1,12 @@
 -- Behind the end of the record there is no quote and no bracket, so counts and states stand still there.
-use mathlib.Core.Path.{_≡_, refl, sym, ap, ap₂, _∙_}
+use mathlib.Core.Path.{_≡_, ap, _∙_}
 use mathlib.Core.Bool.{Bool, false, not, _&&_}
 use mathlib.Core.List.{List}
-use Prim.Native.Nat.{ℕ, _+_, _-_, _≤_, _<_}
+use Prim.Native.Nat.{ℕ, _+_, _-_, _≤_}
 use native.Mathlib.Omega.{arith}
 use lib.ListN.{length}
 use Rattle.rules.specs.Word.{odd, count}
-use Rattle.rules.specs.Bytes.{Class, quote, opens, closes, has}
+use Rattle.rules.specs.Bytes.{Class, quote, opens, closes}
 use Rattle.rules.specs.Bits.{escaped, quoteBit, inString, maskBit, plain, opener, closer}
 use Rattle.rules.proofs.RuleLaws.{has-past}
 use Rattle.index.proofs.LevelLaws.{count-over}

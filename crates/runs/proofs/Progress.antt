@@ -4,29 +4,26 @@ use mathlib.Core.Path.{_≡_, refl, sym, ap, ap₂, _∙_, subst}
 use mathlib.Core.Bool.{Bool, true, false, not, _&&_}
 use mathlib.Core.Logic.{_⊎_, inl, inr, _↔_}
 use mathlib.Core.List.{List, [], _∷_, _++_}
-use Prim.Native.Nat.{ℕ, zero, suc, pred, _+_, _*_, _≤_, _<_}
+use Prim.Native.Nat.{ℕ, zero, suc, _+_, _<_}
 use native.Mathlib.Decide.{ℕ-discrete}
 use native.Mathlib.Omega.{arith}
-use lib.ListN.{length, replicate}
+use lib.ListN.{length}
 use Rattle.rules.specs.Word.{digit}
 use Rattle.rules.specs.Faults.{sound, faultOf}
-use Rattle.index.specs.declared.Answer.{Answer}
-use Rattle.index.specs.declared.Answer.the-variants.{Done, Refused, Faulty}
+use Rattle.index.specs.declared.Answer.the-variants.{Done, Faulty}
 use Rattle.index.specs.declared.Fault.{Fault}
 use Rattle.index.specs.declared.Job.{Job}
-use Rattle.index.specs.Types.{Chunk, State, Open, Stopped, Closed, Step, Scan, Settle, Level, Found, Here}
+use Rattle.index.specs.Types.{Chunk, Open, Stopped, Closed, Step, Scan, Settle, Level, Found, Here}
 use Rattle.index.specs.Checks.{chunksOf, chunkAt, withChunk, spanOf, settledBefore, taken, ready, sameLengths, refusal}
 use Rattle.index.specs.Scanning.{scanChunk, scanned}
 use Rattle.index.specs.Settling.{settleChunk, settleWords, announced, soughtFault, foundBy, foundJob, settled}
 use Rattle.index.specs.Levelling.{levelChunk, levelled}
-use Rattle.index.specs.Closing.{every, allLevelled, closing, closed}
-use Rattle.index.proofs.CheckLaws.{Accepted, accepted, if-done}
+use Rattle.index.specs.Closing.{every, allLevelled, closed}
+use Rattle.index.proofs.CheckLaws.{accepted, if-done}
 use Rattle.index.proofs.Cases.{found-case, state-case}
 use Rattle.index.proofs.CloseLaws.{stopped-fault, closing-done}
-use Rattle.runs.specs.Runs.{Call, scan, settle, level, close, Held, answer, act, run, start, Reached, Ends, ClosedRun, verdictOf, lacks, total, stepsLeft, Next, scan-next, settle-next, level-next}
-use Rattle.runs.proofs.Truth.{Truth, ChunkOk}
+use Rattle.runs.specs.Runs.{Call, scan, settle, level, close, Held, answer, act, run, start, Reached, Ends, verdictOf, lacks, total, stepsLeft, Next, scan-next, settle-next, level-next}
 use Rattle.runs.proofs.Spans.{Shape, count-is, chunk-new, chunk-old}
-use Rattle.runs.proofs.Steps.{clash}
 use Rattle.runs.proofs.Good.{Good}
 use Rattle.index.proofs.NumberLaws.{settle-fault}
 use Rattle.runs.proofs.Calls.{announced-found}

@@ -1,18 +1,14 @@
 -- Whatever is called, in whatever order: a job that calls have led to is good, or closed. A refused call changes nothing, an accepted step keeps
 -- the job good, and a closed job stays closed.
-use mathlib.Core.Path.{_≡_, refl, sym, ap, ap₂, _∙_, subst}
-use mathlib.Core.Bool.{Bool, true, false}
+use mathlib.Core.Path.{_≡_, refl, subst}
+use mathlib.Core.Bool.{Bool}
 use mathlib.Core.Logic.{_⊎_, inl, inr}
 use mathlib.Core.List.{List, [], _∷_}
 use Prim.Native.Nat.{ℕ}
-use native.Mathlib.Omega.{arith}
 use lib.ListN.{length, replicate}
 use Rattle.index.specs.declared.Answer.{Answer}
 use Rattle.index.specs.declared.Answer.the-variants.{Done, Refused, Faulty}
-use Rattle.index.specs.declared.Refusal.the-variants.{IsClosed}
-use Rattle.index.specs.declared.Fault.{Fault}
-use Rattle.index.specs.declared.Job.{Job}
-use Rattle.index.specs.Types.{Chunk, State, Closed, Step, Scan, Settle, Level, Found}
+use Rattle.index.specs.Types.{Closed, Scan, Settle, Level}
 use Rattle.index.specs.Answers.{onDone}
 use Rattle.index.specs.Checks.{chunkAt, withChunk, withState, spanOf, refusal}
 use Rattle.index.specs.Scanning.{scanChunk, scanWords, scanned, scannedWords}

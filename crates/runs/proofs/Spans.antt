@@ -1,21 +1,20 @@
 -- How the chunks of an opened job lie: they rise from word 0 to the last, without gap and without overlap; and no step moves them.
-use mathlib.Core.Path.{_≡_, refl, sym, ap, ap₂, _∙_, subst}
-use mathlib.Core.Bool.{Bool, true, false}
+use mathlib.Core.Path.{_≡_, sym, ap, _∙_}
+use mathlib.Core.Bool.{true, false}
 use mathlib.Core.List.{List}
 use Prim.Native.Nat.{ℕ, zero, suc, pred, _+_, _*_, _/_, _%_, _≤_, _<_, min}
 use native.Mathlib.Decide.{decLt, ℕ-discrete}
 use native.Mathlib.Nat.{lt-of-not-le}
 use native.Mathlib.Numerals.{add-one}
 use native.Mathlib.Omega.{arith}
-use borrow.Author.Tests.{le-leb, lt-leb, leb-true, leb-false}
-use lib.ListN.{length, getD, set, length-set}
+use borrow.Author.Tests.{le-leb, lt-leb}
+use lib.ListN.{length, length-set}
 use lib.Seq.{getD-set-same, getD-set-other}
 use lib.Dec.{leb}
 use Rattle.rules.specs.Word.{pick}
 use Rattle.rules.specs.Layout.{widthOf, sizeOf}
 use Rattle.index.specs.Types.{Chunk}
 use Rattle.index.specs.declared.Job.{Job}
-use Rattle.index.specs.Types.{Span}
 use Rattle.index.specs.Checks.{fresh, chunksOf, chunkAt, withChunk, firstWord, isLast, spanOf}
 
 -- what an accepted opening fixes, and no call changes

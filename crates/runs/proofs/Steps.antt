@@ -1,14 +1,13 @@
 -- Each accepted step keeps what is true of its chunk: scan its guess, settle the truth, level the levels. The other chunks are not touched.
 use mathlib.Core.Path.{_≡_, refl, sym, ap, ap₂, _∙_, subst}
 use mathlib.Core.Bool.{Bool, true, false}
-use mathlib.Core.Logic.{_⊎_, inl, inr}
 use mathlib.Core.List.{List}
-use Prim.Native.Nat.{ℕ, zero, suc, _+_, _*_, _-_, _≤_, _<_}
+use Prim.Native.Nat.{ℕ, _+_, _*_, _-_, _≤_, _<_}
 use native.Mathlib.Omega.{arith}
 use lib.ListN.{length}
-use Rattle.rules.specs.Word.{pick, xor}
+use Rattle.rules.specs.Word.{xor}
 use Rattle.rules.specs.Bits.{quoteBit, inString, maskBit}
-use Rattle.rules.specs.Layout.{Bitmap, quotes, mask, colons, commas, widthOf, Has, cell}
+use Rattle.rules.specs.Layout.{quotes, mask, widthOf, cell}
 use Rattle.rules.proofs.WordLaws.{wordAt-ext}
 use Rattle.index.specs.Types.{Kept}
 use Rattle.index.specs.Types.{Chunk}
@@ -17,13 +16,13 @@ use Rattle.index.specs.Types.{Span}
 use Rattle.index.specs.Guessing.{guessBit}
 use Rattle.index.specs.Depth.{keptOf}
 use Rattle.index.specs.Checks.{chunkAt, spanOf}
-use Rattle.index.specs.Writing.{marksTill, levelsTill}
+use Rattle.index.specs.Writing.{levelsTill}
 use Rattle.index.specs.Scanning.{swingBy, oddIn, scanKept, scanChunk, scanWords}
 use Rattle.index.specs.Settling.{maskIn, insideOf, startOf, guessWrong, settleWords, settleKept, settleChunk, flipWords, swingIn}
 use Rattle.index.specs.Levelling.{levelChunk, levelWords}
 use Rattle.index.proofs.ScanLaws.{swingBy-ext}
 use Rattle.runs.proofs.Walks.{Depth}
-use Rattle.runs.proofs.Truth.{In, Truth, Holds, ChunkOk}
+use Rattle.runs.proofs.Truth.{Truth, Holds, ChunkOk}
 use Rattle.runs.proofs.Words.{guess-right, mask-bit, scan-quotes, scan-mask, flip-mask, flip-quotes, level-colons, level-commas, level-marks}
 
 pub clash : {A : Type 0} (b : Bool) → b ≡ true → b ≡ false → A

@@ -1,18 +1,17 @@
 -- The demands, as theorems over every run: opened with any lawful cuts over any words, with any guesses, any order of calls, refused ones too.
 -- Each follows from `reached-fine`: what calls lead to is good, or closed.
 use mathlib.Core.Path.{_≡_, refl, sym, ap, ap₂, _∙_, subst}
-use mathlib.Core.Bool.{Bool, true, false, not, _&&_}
+use mathlib.Core.Bool.{Bool, true, false, _&&_}
 use mathlib.Core.Logic.{_⊎_, inl, inr, _↔_}
 use mathlib.Core.List.{List}
-use Prim.Native.Nat.{ℕ, zero, suc, pred, _+_, _*_, _≤_, _<_}
+use Prim.Native.Nat.{ℕ, zero, suc, pred, _≤_, _<_}
 use native.Mathlib.Decide.{ℕ-discrete}
 use native.Mathlib.Omega.{arith}
 use borrow.Author.Tests.{eqb-false}
 use lib.ListN.{length, replicate}
 use lib.Dec.{eqb}
 use Rattle.rules.specs.Word.{wordAt}
-use Rattle.rules.specs.Bits.{colonBit, commaBit}
-use Rattle.rules.specs.Faults.{Verdict, sound, faulty, faultOf}
+use Rattle.rules.specs.Faults.{sound, faulty, faultOf}
 use Rattle.rules.specs.Layout.{Bitmap, quotes, mask, colons, commas, widthOf, sizeOf, Has, cell, bitOf, index, Promise}
 use Rattle.rules.proofs.LayoutLaws.{index-only}
 use Rattle.index.specs.declared.Answer.{Answer}
@@ -24,10 +23,10 @@ use Rattle.index.specs.declared.Job.{Job}
 use Rattle.index.specs.Types.{Open, Stopped, Closed}
 use Rattle.index.specs.Checks.{chunksOf, chunkAt, firstWord, spanOf, sameLengths}
 use Rattle.index.specs.Closing.{every, allLevelled, closing, closed, closedWords}
-use Rattle.index.proofs.CheckLaws.{Lengths, lengths, lengths-same}
+use Rattle.index.proofs.CheckLaws.{lengths, lengths-same}
 use Rattle.index.proofs.CloseLaws.{closing-closed, close-is}
 use Rattle.index.proofs.NumberLaws.{close-fault, close-done}
-use Rattle.runs.specs.Runs.{Call, close, Held, answer, act, Reached, Ends, ClosedRun, verdictOf}
+use Rattle.runs.specs.Runs.{close, Held, answer, act, Reached, Ends, ClosedRun, verdictOf}
 use Rattle.runs.proofs.Truth.{ChunkOk, Truth}
 use Rattle.runs.proofs.Spans.{Shape, count-is, in-chunk}
 use Rattle.runs.proofs.Good.{Good}

@@ -1,6 +1,6 @@
 -- What is true of a chunk, by the steps it has had: its words, and once settled the state at its border and what it keeps. Only its own words
 -- and its own record are spoken of, so a step on another chunk leaves it true.
-use mathlib.Core.Path.{_≡_, refl, sym, ap, _∙_}
+use mathlib.Core.Path.{_≡_, _∙_}
 use mathlib.Core.Bool.{Bool, true, false}
 use mathlib.Core.List.{List}
 use Prim.Native.Nat.{ℕ, _+_, _*_, _-_, _≤_, _<_, min}

@@ -1,18 +1,18 @@
 -- A walk over brackets from a depth: it meets no fault exactly when the depth stays within 0 and 64, that is when what a chunk keeps says so;
 -- and a walk from the true depth meets the first fault of the record. By induction on the places.
 use mathlib.Core.Path.{_≡_, refl, sym, ap, ap₂, _∙_, subst}
-use mathlib.Core.Bool.{Bool, true, false, not, _&&_, _||_}
+use mathlib.Core.Bool.{Bool, true, false, _&&_, _||_}
 use mathlib.Core.List.{List}
-use Prim.Native.Nat.{ℕ, zero, suc, _+_, _-_, _≤_, _<_, max}
-use native.Mathlib.Nat.{add-zero, add-suc, suc-add, zero-add}
+use Prim.Native.Nat.{ℕ, zero, suc, _+_, _-_, _≤_}
+use native.Mathlib.Nat.{add-zero, suc-add, zero-add}
 use native.Mathlib.Numerals.{add-one}
 use native.Mathlib.Omega.{arith}
-use borrow.Author.Tests.{eq-eqb, ne-eqb, eqb-true, eqb-false}
+use borrow.Author.Tests.{eq-eqb, ne-eqb}
 use native.Mathlib.Decide.{ℕ-discrete}
 use Rattle.rules.proofs.RuleLaws.{plain-apart}
-use Rattle.rules.specs.Word.{pick, digit, count}
+use Rattle.rules.specs.Word.{digit, count}
 use Rattle.rules.specs.Bits.{opener, closer, atDepth, maskBit}
-use Rattle.rules.specs.Faults.{Verdict, sound, faulty, closesNone, opensOver, faultFrom}
+use Rattle.rules.specs.Faults.{closesNone, opensOver, faultFrom}
 use Rattle.index.specs.declared.Fault.{Fault}
 use Rattle.index.specs.declared.Fault.the-variants.{Closer, Opener}
 use Rattle.index.specs.Types.{Sought}

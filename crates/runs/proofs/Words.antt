@@ -1,5 +1,5 @@
 -- What each accepted step leaves in the words, cell by cell: its own in its chunk, and everything else as it was.
-use mathlib.Core.Path.{_≡_, refl, sym, ap, ap₂, _∙_, subst}
+use mathlib.Core.Path.{_≡_, refl, sym, ap, ap₂, _∙_}
 use mathlib.Core.Bool.{Bool, true, false, not, _&&_}
 use mathlib.Core.Logic.{_⊎_, inl, inr}
 use mathlib.Core.List.{List}
@@ -12,19 +12,17 @@ use lib.Dec.{eqb, ltb}
 use Rattle.rules.specs.Word.{xor, odd, count, wordAt, bit}
 use Rattle.rules.specs.Bytes.{Class, colon, comma, opens, closes, has}
 use Rattle.rules.specs.Bits.{quoteBit, inString, maskBit, plain, opener, closer, atDepth, levelBit, colonBit, commaBit}
-use Rattle.rules.specs.Layout.{Bitmap, quotes, mask, colons, commas, widthOf, sizeOf, Has, cell, bitIn}
-use Rattle.rules.proofs.Booleans.{bool1, bool2}
+use Rattle.rules.specs.Layout.{Bitmap, quotes, mask, colons, commas, widthOf, Has, cell, bitIn}
 use Rattle.rules.proofs.Counting.{count-ext, count-cat}
 use Rattle.rules.proofs.WordLaws.{wordAt-ext, bit-at}
 use Rattle.rules.proofs.LayoutLaws.{Cells, laid-cells}
 use Rattle.index.specs.Types.{Span}
 use Rattle.index.specs.Guessing.{guessed, guessBit}
 use Rattle.index.specs.Writing.{over, rewritten, marksTill, levelsTill}
-use Rattle.index.specs.Scanning.{swingBy, scanWord, scanWords}
+use Rattle.index.specs.Scanning.{scanWord, scanWords}
 use Rattle.index.specs.Settling.{maskIn, turned, flipWord, flipWords}
 use Rattle.index.specs.Levelling.{deepAt, levelBy, levelWord, levelWords}
 use Rattle.index.proofs.MarkLaws.{guessed-true}
-use Rattle.index.proofs.LentLaws.{held-bit}
 use Rattle.index.proofs.WriteLaws.{over-in, over-below, over-above}
 use Rattle.runs.proofs.Walks.{Depth}
 use Rattle.runs.proofs.Truth.{In, Holds}

@@ -1,15 +1,14 @@
 -- How much of an input has to be read: its first 17,410 bytes tell its line. The path ends among the first 1,025, or 21 is told; and
 -- what is then left of them is a record above the limit.
 use Prim.Native.Nat.{ℕ, _+_, _≤_, _<_}
-use mathlib.Core.Path.{_≡_, refl, sym, ap, subst, _∙_}
+use mathlib.Core.Path.{_≡_, refl, sym, ap, _∙_}
 use mathlib.Core.Bool.{Bool, true, false}
 use mathlib.Core.List.{List}
 use native.Mathlib.Omega.{arith}
-use lib.ListN.{length, take, drop, length-drop}
+use lib.ListN.{length, take, length-drop}
 use lib.Seq.{length-take-le, take-all, getD-take}
-use lib.Dec.{eqb, ltb, leb}
+use lib.Dec.{eqb, ltb}
 use borrow.Author.Tests.{ltb-true, ltb-false}
-use Rattle.query.specs.Places.{firstAt}
 use Rattle.query.proofs.PlaceLaws.{first-ge, first-hit, first-miss, first-skip, first-at}
 use Rattle.show.specs.Lines.{isFeed, lineEnd, shown}
 use Rattle.show.proofs.Inputs.{long-path, long-record}

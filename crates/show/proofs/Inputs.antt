@@ -1,19 +1,15 @@
 -- The parts of an input, and the buffers for its record.
 use Prim.Native.Nat.{ℕ, zero, suc, _+_, _*_, _-_, _/_, _≤_, _<_}
 use mathlib.Core.Path.{_≡_, refl, sym, ap, _∙_}
-use mathlib.Core.Bool.{true, false}
-use mathlib.Core.List.{List, [], _∷_}
+use mathlib.Core.List.{List, _∷_}
 use native.Mathlib.Omega.{arith}
 use lib.ListN.{length, take, drop, replicate, drop-of-length-le, length-replicate, length-drop}
 use lib.Seq.{length-take-le, take-all}
-use lib.Dec.{ltb}
 use borrow.Author.Tests.{lt-ltb, le-ltb}
-use Rattle.rules.specs.Word.{pick}
 use Rattle.rules.specs.Layout.{listed, widthOf, sizeOf}
-use Rattle.show.specs.declared.lines.Line.{Line}
 use Rattle.show.specs.Running.{multiples, cutsOf}
 use Rattle.query.proofs.PlaceLaws.{first-le}
-use Rattle.show.specs.Lines.{isFeed, lineEnd, recordOf, pathOf, placed, zeros, lineIn, lineOf, shown}
+use Rattle.show.specs.Lines.{isFeed, lineEnd, placed, zeros, lineIn, lineOf, shown}
 
 -- ---- buffers
 

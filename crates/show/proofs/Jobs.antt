@@ -1,11 +1,10 @@
 -- The calls of the code, one after another, are the job that the definitions run.
 use Prim.Native.Nat.{ℕ, _+_}
 use mathlib.Core.Path.{_≡_, refl, sym, ap, _∙_}
-use mathlib.Core.List.{List, [], _∷_, _++_}
+use mathlib.Core.List.{List, [], _∷_}
 use lib.ListN.{length}
 use types.Run.{OneOf}
 use denote.Enum.Declared.{tagOf}
-use Rattle.index.specs.declared.Answer.{Answer}
 use Rattle.index.specs.declared.Answer.the-variants.{Done, Refused, Faulty}
 use Rattle.index.specs.declared.Fault.{Fault}
 use Rattle.index.specs.declared.Refusal.{Refusal}
@@ -17,7 +16,7 @@ use Rattle.index.specs.Closing.{closed, closedWords}
 use Rattle.index.proofs.Answer.{the-type}
 use Rattle.index.proofs.AnswerLaws.{not-done}
 use Rattle.query.specs.Answers.{answerOf}
-use Rattle.runs.specs.Runs.{answer, act, close, run, start}
+use Rattle.runs.specs.Runs.{answer, act, run, start}
 use Rattle.show.specs.declared.lines.Line.{Line}
 use Rattle.show.specs.Running.{held, scans, finishes, ran, jobAnswer, jobWords}
 use Rattle.show.specs.Lines.{placed, queryLine, lineIn}

@@ -12,7 +12,8 @@ use Rattle.query.specs.Items.{lent, itemAt}
 use Rattle.query.specs.declared.items.Item.{Item}
 use Rattle.query.proofs.items.Item.{the-type}
 use Rattle.query.proofs.Lents.{can-read, readable-to}
-use Rattle.query.proofs.Standing.{lowest, standing-from, standing-whole}
+use Rattle.query.proofs.Standing.{standing-from, standing-whole}
+use Rattle.rules.proofs.BitWalk.{lowest}
 use Rattle.query.proofs.Walking.{Walking, walking-from, walking-out, walking-end, walking-stop, walking-next, walking-word}
 use borrow.Author.Needs.{needs}
 use Rattle.query.proofs.items.find_name.Statement.{statement}
