@@ -95,6 +95,15 @@ then-checked (c ∷ later) a = go (c .0) (then-checked later a)
     go true e = refl
     go false e = e
 
+-- no check answers a fault
+pub never-faulty : (checks : List Check) (f : Fault) → checked checks Done ≡ Faulty f → ⊥
+never-faulty [] f e = let z : _≡_ {A = ℕ} 0 1 = cc in omega arith
+never-faulty (c ∷ later) f e = go (c .0) (never-faulty later f) e
+  where
+    go : (b : Bool) → (checked later Done ≡ Faulty f → ⊥) → pick b (Refused (c .1)) (checked later Done) ≡ Faulty f → ⊥
+    go true n h = let z : _≡_ {A = ℕ} 0 1 = cc in omega arith
+    go false n h = n h
+
 -- either no condition holds, or there is a first that does
 abbrev Decided : List Check → Type 0
 Decided checks = NoneHolds checks ⊎ ((i : ℕ) × ((i < length checks) × First checks i))

@@ -1,19 +1,17 @@
 -- The escaped places of a word, by a sum.
 use mathlib.Core.Path.{_≡_, refl, sym, ap, ap₂, _∙_}
-use mathlib.Core.Bool.{Bool, true, false, not, _&&_, _||_}
-use Prim.Native.Nat.{ℕ, zero, suc, _+_, _-_, _*_, _/_, _%_, _^_, _<_}
+use mathlib.Core.Bool.{Bool, true, false, not, _&&_}
+use Prim.Native.Nat.{ℕ, zero, suc, _+_, _-_, _*_, _/_, _%_, _^_}
 use native.Mathlib.Nat.{mod-add-mod, add-zero, add-suc}
 use mathlib.Core.List.{List}
 use lib.Dec.{eqb}
 use lib.Bits.{bitXor, bitAnd, bitOr}
-use Rattle.rules.specs.Word.{digit, word}
-use Rattle.rules.specs.Word.{odd}
+use Rattle.rules.specs.Word.{digit, word, odd, xor}
 use Rattle.rules.specs.Bytes.{backslash, has}
 use Rattle.rules.specs.Bits.{escaped}
 use Rattle.rules.proofs.RuleLaws.{escaped-suc}
 use Rattle.rules.proofs.Booleans.{bool2, bool3, bool4}
 use Rattle.rules.proofs.WordLaws.{lead, carry, major, sumBit, and-word, xor-word, not-word, shift-in, add-word, word-ext, word-top}
-use Rattle.rules.specs.Word.{xor}
 use Rattle.index.specs.Escape.{escFrom}
 
 module _ (c : Bool) (p : ℕ → Bool) where

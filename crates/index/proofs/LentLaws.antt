@@ -1,20 +1,17 @@
 -- The mask as lent: its words read as bits, the class words of a block by it, and a word of it turned over.
-use mathlib.Core.Path.{_≡_, refl, sym, ap, ap₂, _∙_}
-use mathlib.Core.Bool.{Bool, not, _&&_}
+use mathlib.Core.Path.{_≡_, sym, ap, ap₂, _∙_}
+use mathlib.Core.Bool.{Bool}
 use mathlib.Core.List.{List}
 use Prim.Native.Nat.{ℕ, _+_, _*_, _-_, _/_, _%_, _^_, _≤_, _<_}
 use native.Mathlib.Omega.{arith}
-use lib.ListN.{length}
 use lib.Dec.{ltb}
-use lib.Bits.{bitAnd, bitXor}
+use lib.Bits.{bitXor}
 use Rattle.rules.specs.Word.{xor, word, wordAt, bit}
-use Rattle.rules.specs.Bytes.{Class, has}
-use Rattle.rules.specs.Bits.{plain}
 use Rattle.rules.specs.Layout.{Bitmap, mask, widthOf, Has, cell, bitIn}
 use Rattle.rules.proofs.LayoutLaws.{Cells}
 use Rattle.rules.proofs.WordLaws.{word-bits, word-ext, xor-word, bit-at}
 use Rattle.index.specs.Settling.{maskIn, turned}
-use Rattle.index.proofs.MarkLaws.{ltb-shift, plain-of}
+use Rattle.index.proofs.MarkLaws.{ltb-shift}
 
 -- a word of lent words is the word of its bits
 pub cell-word : (words : List ℕ) (levels width : ℕ) (b : Bitmap) (w : ℕ) {v : ℕ} → v ≡ cell words levels width b w → v < 2 ^ 64 → v ≡ wordAt (bitIn words levels width b) w

@@ -6,7 +6,7 @@ use Prim.Native.Nat.{ℕ, zero, suc, _+_, _-_, _≤_, _<_}
 use native.Mathlib.Nat.{add-zero, add-suc, lt-of-not-le}
 use native.Mathlib.Decide.{ℕ-discrete, decLt}
 use native.Mathlib.Omega.{arith}
-use borrow.Author.Tests.{eq-eqb, ne-eqb, lt-ltb, le-ltb, le-leb, lt-leb}
+use borrow.Author.Tests.{ltb-true, ltb-false, eq-eqb, ne-eqb, lt-ltb, le-ltb, le-leb, lt-leb}
 use lib.ListN.{length, getD, set, replicate, getD-replicate}
 use lib.Seq.{getD-set-same, getD-set-other}
 use lib.Bits.{bitOr, bitXor}
@@ -51,24 +51,18 @@ count-over p i (suc m) h =
 pub Slots : ℕ → (ℕ → Bool) → (ℕ → Bool) → ℕ → ℕ → List ℕ → Type 0
 Slots s o c i at slots = (k : ℕ) → 1 ≤ k → k ≤ 16 → getD slots k 0 ≡ word 64 (λ j. ltb j at && deepAt s o c k (i + j))
 
-join : (b a v x : Bool) → ((a ≡ true) → b ≡ true) → ((b ≡ true) → (a ≡ false) → x ≡ true) → ((a && x) || xor b a) ≡ (b && x)
-join true true v true f g = refl
-join true true v false f g = refl
-join true false v x f g = sym (g refl refl)
-join false true v x f g = let z : _≡_ {A = ℕ} 0 1 = let q : false ≡ true = f refl in cc in absurd (omega arith)
-join false false v x f g = refl
+join : (b a x : Bool) → ((a ≡ true) → b ≡ true) → ((b ≡ true) → (a ≡ false) → x ≡ true) → ((a && x) || xor b a) ≡ (b && x)
+join true true true f g = refl
+join true true false f g = refl
+join true false x f g = sym (g refl refl)
+join false true x f g = let z : _≡_ {A = ℕ} 0 1 = let q : false ≡ true = f refl in cc in absurd (omega arith)
+join false false x f g = refl
 
 skip : (b a x : Bool) → ((a ≡ true) → b ≡ true) → ((b ≡ true) → (a ≡ false) → x ≡ false) → (a && x) ≡ (b && x)
 skip true true x f g = refl
 skip true false x f g = sym (g refl refl)
 skip false true x f g = let z : _≡_ {A = ℕ} 0 1 = let q : false ≡ true = f refl in cc in absurd (omega arith)
 skip false false x f g = refl
-
-ltb-lt : (j n : ℕ) → ltb j n ≡ true → j < n
-ltb-lt = borrow.Author.Tests.ltb-true
-
-ltb-ge : (j n : ℕ) → ltb j n ≡ false → n ≤ j
-ltb-ge = borrow.Author.Tests.ltb-false
 
 module _ (s : ℕ) (o c : ℕ → Bool) (i at till : ℕ) (up down : ℕ) (slots : List ℕ) (held : Slots s o c i at slots) (few : length slots ≡ 17) (l : at ≤ till)
     (flat : (j : ℕ) → at ≤ j → j < till → (s + count o (i + j) ≡ up) × (count c (i + j) ≡ down)) where
@@ -78,9 +72,9 @@ module _ (s : ℕ) (o c : ℕ → Bool) (i at till : ℕ) (up down : ℕ) (slots
   slot-other k h m n =
       held k h m
       ∙ word-ext 64 _ _ (λ j b.
-      skip (ltb j till) (ltb j at) (deepAt s o c k (i + j)) (λ p. lt-ltb j till (omega (arith, ltb-lt j at p)))
+      skip (ltb j till) (ltb j at) (deepAt s o c k (i + j)) (λ p. lt-ltb j till (omega (arith, ltb-true j at p)))
       (λ p q.
-      let f = flat j (ltb-ge j at q) (ltb-lt j till p) in
+      let f = flat j (ltb-false j at q) (ltb-true j till p) in
       ap₂ (λ (x y : ℕ). eqb x (y + k)) (f .0) (f .1) ∙ ne-eqb up (down + k) (λ e. n (sym (slot-is up down k m e)))))
 
   -- and the one it does
@@ -90,9 +84,9 @@ module _ (s : ℕ) (o c : ℕ → Bool) (i at till : ℕ) (up down : ℕ) (slots
   slot-own k h m e =
       ap₂ bitOr (held k h m) (xor-word 64 (λ j. ltb j till) (λ j. ltb j at)) ∙ or-word 64 _ _
       ∙ word-ext 64 _ _ (λ j b.
-      join (ltb j till) (ltb j at) true (deepAt s o c k (i + j)) (λ p. lt-ltb j till (omega (arith, ltb-lt j at p)))
+      join (ltb j till) (ltb j at) (deepAt s o c k (i + j)) (λ p. lt-ltb j till (omega (arith, ltb-true j at p)))
       (λ p q.
-      let f = flat j (ltb-ge j at q) (ltb-lt j till p) in
+      let f = flat j (ltb-false j at q) (ltb-true j till p) in
       ap₂ (λ (x y : ℕ). eqb x (y + k)) (f .0) (f .1) ∙ eq-eqb up (down + k) (slot-hit up down k h (sym e))))
 
   pub slots-next : {k tillw donew : ℕ} → k ≡ slotOf up down → tillw ≡ word 64 (λ j. ltb j till) → donew ≡ word 64 (λ j. ltb j at)

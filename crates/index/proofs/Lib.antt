@@ -20,3 +20,7 @@ pub mod DepthLaws
 pub mod OpenLaws
 pub mod CloseLaws
 pub mod NumberLaws
+pub mod Cases
+pub mod FrameLaws
+pub mod LocalityLaws
+pub mod OutcomeLaws

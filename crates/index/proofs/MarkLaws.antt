@@ -2,15 +2,15 @@
 use mathlib.Core.Path.{_≡_, refl, sym, ap, ap₂, _∙_, fun-ext}
 use mathlib.Core.Bool.{Bool, true, false, not, _&&_}
 use mathlib.Core.List.{List}
-use Prim.Native.Nat.{ℕ, zero, suc, _+_, _-_, _*_, _^_, _<_, _≤_}
+use Prim.Native.Nat.{ℕ, _+_, _-_, _*_, _^_, _≤_}
 use native.Mathlib.Omega.{arith}
 use lib.ListN.{length}
 use lib.Dec.{T, ltb, ltb→lt, lt→ltb}
 use lib.Bits.{bitAnd}
 use Rattle.rules.specs.Word.{xor, odd, count, word, wordAt}
 use Rattle.rules.specs.Bytes.{Class, quote, backslash, has}
-use Rattle.rules.specs.Bits.{escaped, quoteBit, inString, maskBit, plain}
-use Rattle.rules.proofs.Booleans.{bool1, bool2, xor-assoc}
+use Rattle.rules.specs.Bits.{escaped, quoteBit, inString, plain}
+use Rattle.rules.proofs.Booleans.{xor-assoc}
 use Rattle.rules.proofs.Counting.{count-cat, odd-cat}
 use Rattle.rules.proofs.WordLaws.{and-word, not-word, word-ext}
 use Rattle.rules.proofs.RuleLaws.{inString-add}
@@ -19,9 +19,6 @@ use Rattle.index.specs.Guessing.{guessed, guessBit}
 use Rattle.index.proofs.EscapeLaw.{escFrom-escaped}
 
 -- ---- a guess, carried on
-
-xor-none : (b : Bool) → xor b false ≡ b
-xor-none = bool1 _ _ tt
 
 pub guessed-self : (g : Bool) (a : ℕ) (text : List ℕ) → guessed g a text a ≡ g
 unfolding guessed count odd

@@ -1,12 +1,12 @@
 -- The numbers of opening, of every step, of close and of asking, 0 to 16: each exactly when its condition holds and no earlier one does;
 -- and what a refused call leaves. By the laws of any list of checks.
-use mathlib.Core.Path.{_≡_, refl, sym, _∙_}
+use mathlib.Core.Path.{_≡_, refl, sym, ap, _∙_}
 use mathlib.Core.Logic.{_↔_}
 use mathlib.Core.Bool.{Bool, true, false, _&&_, and-false}
 use mathlib.Core.List.{List, [], _∷_}
 use Prim.Native.Nat.{ℕ, _≤_, _<_}
 use native.Mathlib.Omega.{arith}
-use lib.Dec.{ltb}
+use lib.Dec.{T, ltb}
 use lib.ListN.{length, replicate}
 use borrow.Author.Tests.{ltb-true, ltb-false}
 use Rattle.rules.specs.Word.{pick}
@@ -18,13 +18,19 @@ use Rattle.index.specs.declared.Answer.the-variants.{Done, Refused, Faul
 use Rattle.index.specs.declared.State.{State}
 use Rattle.index.specs.declared.State.the-variants.{Open, Stopped, Closed}
 use Rattle.index.specs.declared.Step.{Step}
+use Rattle.index.specs.declared.Step.the-variants.{Scan, Settle, Level}
+use Rattle.index.specs.declared.settling.Found.{Found}
+use Rattle.index.specs.declared.settling.Found.the-variants.{Nothing, Here}
 use Rattle.index.specs.declared.Job.{Job}
-use Rattle.index.specs.Answers.{refusalNumber, numberOf, placeOf, askedNumber}
+use Rattle.index.specs.Answers.{refusalNumber, numberOf, placeOf, askedNumber, onDone}
 use Rattle.index.specs.Numbers.{Refuses, numbers, Exactly}
 use Rattle.index.specs.Checks.{chunksOf, withState, isStopped, sameLengths, stepChecks, refusal, asked}
 use Rattle.index.specs.Opening.{badCut, firstBad, openChecks, opening, noJob, opened}
+use Rattle.index.specs.Scanning.{scanned, scannedWords}
+use Rattle.index.specs.Settling.{foundAnswer, foundBy, settleWords, settled, settledWords}
+use Rattle.index.specs.Levelling.{levelled, levelledWords}
 use Rattle.index.specs.Closing.{allLevelled, closeChecks, faultAgain, closing, unlessRefused, closed, closedWords}
-use Rattle.index.proofs.AnswerLaws.{refusal-range, done-other, fault-other, refused-is, refused-leaves, hit, exactly}
+use Rattle.index.proofs.AnswerLaws.{refusal-range, done-other, fault-other, refused-is, refused-leaves, hit, then-checked, never-faulty, rising, exactly}
 use Rattle.index.proofs.OpenLaws.{first-holds, first-before}
 use Rattle.index.proofs.CloseLaws.{closing-closed, stopped-other, stopped-fault, closing-other, closing-early, closing-done, close-is}
 
@@ -91,9 +97,67 @@ pub step-order : (s : Step) (j : Job) (n w k : ℕ) → numbers (stepChecks s j 
 unfolding stepChecks
 step-order s j n w k = refl
 
+steps-rise : (s : Step) (j : Job) (n w k : ℕ) → T (rising 0 (stepChecks s j n w k))
+unfolding stepChecks
+steps-rise s j n w k = tt
+
 pub step-numbers : (s : Step) (j : Job) (n w k : ℕ) → Exactly (stepChecks s j n w k) Done (refusal s j n w k)
-unfolding refusal stepChecks
-step-numbers s j n w k = exactly (stepChecks s j n w k) Done tt done-other
+unfolding refusal
+step-numbers s j n w k = exactly (stepChecks s j n w k) Done (steps-rise s j n w k) done-other
+
+-- what an accepted settle answers is no refusal
+found-other : (f : Found) (r : Refusal) → numberOf (foundAnswer f) ≡ refusalNumber r → ⊥
+found-other Nothing = done-other
+found-other (Here f) = fault-other f
+
+found-here : (x : Found) (f : Fault) → foundAnswer x ≡ Faulty f → x ≡ Here f
+found-here Nothing f e = let z : _≡_ {A = ℕ} 0 1 = cc in absurd (omega arith)
+found-here (Here g) f e = cc
+
+unless-found : (a : Answer) (x : Found) → Refuses (onDone a (foundAnswer x) a) → Refuses a
+unless-found Done x h = let r = refused-is (foundAnswer x) h in absurd (found-other x (r .0) (ap numberOf (r .1)))
+unless-found (Refused r) x h = h
+unless-found (Faulty f) x h = h
+
+module _ (j : Job) (text words : List ℕ) (k : ℕ) where
+  pub scan-numbers : (g : Bool) → Exactly (stepChecks Scan j (length text) (length words) k) Done (scanned j text (length words) k g .answer)
+  unfolding scanned
+  scan-numbers g = step-numbers Scan j (length text) (length words) k
+
+  pub level-numbers : Exactly (stepChecks Level j (length text) (length words) k) Done (levelled j (length text) (length words) k .answer)
+  unfolding levelled
+  level-numbers = step-numbers Level j (length text) (length words) k
+
+  -- an accepted settle answers the fault that it found: 13 to 16
+  pub settle-numbers : Exactly (stepChecks Settle j (length text) (length words) k) (foundAnswer (foundBy j text (settleWords j text words k) k)) (settled j text words k .answer)
+  unfolding settled refusal
+  settle-numbers =
+      rw then-checked (exactly (stepChecks Settle j (length text) (length words) k) _ (steps-rise Settle j (length text) (length words) k) (found-other (foundBy j text (settleWords j text words k) k)))
+
+  pub settle-fault : (f : Fault) → (settled j text words k .answer ≡ Faulty f) ↔ ((refusal Settle j (length text) (length words) k ≡ Done) × (foundBy j text (settleWords j text words k) k ≡ Here f))
+  unfolding settled refusal
+  settle-fault f = (go (refusal Settle j (length text) (length words) k) (foundBy j text (settleWords j text words k) k) (never-faulty (stepChecks Settle j (length text) (length words) k)), λ h. rw (h .0, h .1))
+    where
+      go : (a : Answer) (x : Found) → ((h : Fault) → a ≡ Faulty h → ⊥) → onDone a (foundAnswer x) a ≡ Faulty f → (a ≡ Done) × (x ≡ Here f)
+      go Done x n e = (refl, found-here x f e)
+      go (Refused r) x n e = let z : _≡_ {A = ℕ} 0 1 = cc in absurd (omega arith)
+      go (Faulty h) x n e = absurd (n h refl)
+
+  -- a refused step changes neither job nor words
+  pub scan-refused : (g : Bool) → Refuses (scanned j text (length words) k g .answer) → (scanned j text (length words) k g .job ≡ j) × (scannedWords j text words k g ≡ words)
+  unfolding scanned scannedWords
+  scan-refused g h = let a = refusal Scan j (length text) (length words) k in (refused-leaves a _ j h, refused-leaves a _ words h)
+
+  pub settle-refused : Refuses (settled j text words k .answer) → (settled j text words k .job ≡ j) × (settledWords j text words k ≡ words)
+  unfolding settled settledWords
+  settle-refused h =
+      let a = refusal Settle j (length text) (length words) k in
+      let r = unless-found a (foundBy j text (settleWords j text words k) k) h in
+      (refused-leaves a _ j r, refused-leaves a _ words r)
+
+  pub level-refused : Refuses (levelled j (length text) (length words) k .answer) → (levelled j (length text) (length words) k .job ≡ j) × (levelledWords j text words k ≡ words)
+  unfolding levelled levelledWords
+  level-refused h = let a = refusal Level j (length text) (length words) k in (refused-leaves a _ j h, refused-leaves a _ words h)
 
 -- ---- asking
 

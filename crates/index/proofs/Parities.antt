@@ -1,14 +1,12 @@
 -- The parity of the bits at and below each place, by doubling windows.
-use mathlib.Core.Path.{_≡_, refl, sym, ap, ap₂, _∙_}
-use mathlib.Core.Bool.{Bool, true, false, not}
-use Prim.Native.Nat.{ℕ, zero, suc, _+_, _*_, _%_, _^_, _<_, suc-le-suc}
+use mathlib.Core.Path.{_≡_, refl, sym, ap, _∙_}
+use mathlib.Core.Bool.{Bool, false}
+use Prim.Native.Nat.{ℕ, zero, suc, _+_, _*_, _%_, _^_, _<_}
 use native.Mathlib.Nat.{suc-add, zero-add, not-suc-le-zero, le-of-suc-le-suc}
 use lib.Bits.{bitXor}
-use Rattle.rules.specs.Word.{digit, word}
-use Rattle.rules.specs.Word.{odd, count}
+use Rattle.rules.specs.Word.{word, odd, count, xor}
 use Rattle.rules.proofs.Booleans.{xor-assoc, bool1}
 use Rattle.rules.proofs.WordLaws.{delay, shift, xor-word, shl-word, word-ext}
-use Rattle.rules.specs.Word.{xor}
 use Rattle.rules.proofs.Counting.{odd-digit}
 
 -- the parity of the last k bits of p up to and with place i

@@ -1,9 +1,9 @@
 -- A word of a row lies among the lent words, which are few.
-use mathlib.Core.Path.{_≡_, sym, ap, _∙_}
+use mathlib.Core.Path.{_≡_, ap}
 use Prim.Native.Nat.{ℕ, _+_, _*_, _≤_, _<_}
 use native.Mathlib.Nat.{mul-le-mul}
 use native.Mathlib.Omega.{arith}
-use Rattle.rules.specs.Layout.{row, bitmapOf, address}
+use Rattle.rules.specs.Layout.{bitmapOf, address}
 use Rattle.rules.proofs.LayoutLaws.{rowed, address-lt}
 use Rattle.index.specs.Writing.{InRow}
 

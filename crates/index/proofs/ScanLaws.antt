@@ -1,13 +1,13 @@
 -- A scan from word to word: what the leaves say of word w continues what was scanned from the border on.
-use mathlib.Core.Path.{_≡_, refl, sym, ap, ap₂, _∙_}
+use mathlib.Core.Path.{_≡_, refl, sym, ap, _∙_}
 use mathlib.Core.Bool.{Bool, _&&_, not}
 use mathlib.Core.Logic.{_⊎_, inl, inr}
 use mathlib.Core.List.{List}
-use Prim.Native.Nat.{ℕ, zero, suc, _+_, _*_, _-_, _/_, _≤_, _<_}
+use Prim.Native.Nat.{ℕ, _+_, _*_, _-_, _≤_, _<_}
 use native.Mathlib.Omega.{arith}
 use lib.ListN.{length}
 use lib.Dec.{ltb}
-use Rattle.rules.specs.Word.{word, wordAt, count}
+use Rattle.rules.specs.Word.{wordAt, count}
 use Rattle.rules.specs.Bytes.{Class, opens, closes, has}
 use Rattle.rules.specs.Bits.{plain}
 use Rattle.rules.specs.Layout.{Bitmap, quotes, mask, colons, commas, widthOf, sizeOf}
@@ -18,7 +18,7 @@ use Rattle.index.specs.declared.scanning.Marked.{Marked}
 use Rattle.index.specs.Guessing.{guessed, guessBit}
 use Rattle.index.specs.Swinging.{dip, peak, swing, Brackets}
 use Rattle.index.specs.Writing.{marksTill, InRow, Lent}
-use Rattle.index.specs.Scanning.{MarkedWord, swingBy, scanWord}
+use Rattle.index.specs.Scanning.{MarkedWord, swingBy}
 use Rattle.index.proofs.MarkLaws.{guessed-on}
 use Rattle.index.proofs.SwingLaws.{swing-ext}
 

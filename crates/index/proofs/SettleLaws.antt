@@ -1,23 +1,21 @@
 -- What settle does, test by test: the state at the border, the fault that is announced, the fault at the end, and the step itself.
-use mathlib.Core.Path.{_≡_, refl, sym, ap, ap₂, _∙_}
-use mathlib.Core.Bool.{Bool, true, false, _||_}
+use mathlib.Core.Path.{_≡_, refl, ap}
+use mathlib.Core.Bool.{Bool, true, false}
 use mathlib.Core.List.{List}
-use Prim.Native.Nat.{ℕ, zero, suc, _+_, _-_, _≤_, _<_}
+use Prim.Native.Nat.{ℕ, zero, suc, _-_, _≤_, _<_}
 use native.Mathlib.Omega.{arith}
 use borrow.Author.Tests.{lt-ltb, le-ltb}
 use lib.ListN.{length}
 use lib.IntN.{pos, _+ℤ_}
-use lib.Dec.{ltb}
 use Rattle.rules.specs.Word.{pick, xor}
 use Rattle.index.specs.declared.Fault.the-variants.{InString, InBracket}
 use Rattle.index.specs.declared.Chunk.{Chunk}
 use Rattle.index.specs.declared.Job.{Job}
 use Rattle.index.specs.declared.checks.Span.{Span}
-use Rattle.index.specs.declared.settling.Sought.{Sought}
 use Rattle.index.specs.declared.settling.Found.{Found}
 use Rattle.index.specs.declared.settling.Found.the-variants.{Nothing, Here}
 use Rattle.index.specs.Checks.{chunkAt}
-use Rattle.index.specs.Depth.{belowZero, above64, clampDepth}
+use Rattle.index.specs.Depth.{clampDepth}
 use Rattle.index.specs.Settling.{insideOf, startOf, ofSought, announced, seekIn, soughtFault, endFault, orElse, chunkFault}
 
 -- ---- the state at the border

@@ -1,18 +1,16 @@
 -- What an accepted step may rely on, and what the two ways of every step come to: accepted, it does its work; refused, nothing.
-use mathlib.Core.Path.{_≡_, refl, sym, ap, _∙_}
+use mathlib.Core.Path.{_≡_, sym}
 use mathlib.Core.List.{List, [], _∷_}
 use mathlib.Core.Bool.{Bool}
-use Prim.Native.Nat.{ℕ, _*_, _-_, _≤_, _<_}
+use Prim.Native.Nat.{ℕ, _*_, _-_}
 use native.Mathlib.Omega.{arith}
-use types.Run.{OneOf, miss}
+use types.Run.{OneOf}
 use denote.Enum.Declared.{tagOf}
 use lib.ListN.{length}
-use Rattle.rules.specs.Layout.{sizeOf}
 use Rattle.index.specs.declared.Answer.{Answer}
-use Rattle.index.specs.declared.Answer.the-variants.{Done, Refused, Faulty}
+use Rattle.index.specs.declared.Answer.the-variants.{Done}
 use Rattle.index.specs.declared.Step.{Step}
 use Rattle.index.specs.declared.Job.{Job}
-use Rattle.index.specs.declared.Handed.{Handed}
 use Rattle.index.specs.Answers.{onDone}
 use Rattle.index.specs.Checks.{spanOf, refusal}
 use Rattle.index.specs.Stepping.{Fitting}
@@ -20,6 +18,8 @@ use Rattle.index.specs.Swinging.{Small}
 use Rattle.index.specs.Writing.{Lent}
 use Rattle.index.specs.Scanning.{swingBy}
 use Rattle.index.proofs.Answer.{the-type}
+unfoldable pub use Rattle.index.proofs.AnswerLaws.{handed}
+use Rattle.index.proofs.AnswerLaws.{not-done}
 use Rattle.index.proofs.SwingLaws.{swing-small}
 use Rattle.index.proofs.ScanLaws.{width-few}
 use Rattle.index.proofs.CheckLaws.{chunks-few, span-within, lengths, accepted}
@@ -39,22 +39,14 @@ pub small-swing : (by : ℕ → Bool) (text words : List ℕ) (levels from to : 
 unfolding swingBy
 small-swing by text words levels from to l = swing-small _ _ (64 * (to - from)) 16777216 (omega (arith, l .within, width-few (length text) (l .small)))
 
-abbrev pub handed : Answer → Job → Handed
-handed a j = record { answer = a; job = j }
-
 -- the tags of the other answers
 abbrev pub Other : Answer → Type 0
 Other a = OneOf (1 ∷ 2 ∷ []) (tagOf the-type a)
 
-not-done : {A : Type 0} (a : Answer) (x y : A) → Other a → y ≡ onDone a x y
-not-done Done x y h = absurd (miss (1 ∷ 2 ∷ []) 0 tt h)
-not-done (Refused r) x y h = refl
-not-done (Faulty f) x y h = refl
-
 module _ {A : Type 0} {r : Answer} where
   -- r is what the checks answer, and a what the call got
   pub as-refused : {a : Answer} → a ≡ r → Other a → (x y : A) → y ≡ onDone r x y
-  as-refused e h x y = not-done r x y (rw e at h)
+  as-refused e h x y = sym (not-done r x y (rw e at h))
 
   pub as-done : r ≡ Done → (x y : A) → x ≡ onDone r x y
   as-done e x y = rw e

@@ -6,10 +6,10 @@ use Prim.Native.Nat.{ℕ, zero, suc, _+_, _-_, _≤_, _<_, max}
 use native.Mathlib.Nat.{add-zero, add-suc}
 use native.Mathlib.Omega.{arith}
 use lib.Bits.{bitOr}
-use Rattle.rules.specs.Word.{digit, count, word, bit}
+use Rattle.rules.specs.Word.{count, bit}
 use Rattle.rules.proofs.Counting.{count-le, count-ext}
 use Rattle.rules.proofs.WordLaws.{or-word, bit-of}
-use Rattle.index.specs.Swinging.{dip, peak, swing, past, Apart, Brackets, Small}
+use Rattle.index.specs.Swinging.{dip, peak, swing, past, Brackets, Small}
 use Rattle.index.specs.declared.swing.Swing.{Swing}
 
 pub swing-eq : {u d p q u′ d′ p′ q′ : ℕ} → u ≡ u′ → d ≡ d′ → p ≡ p′ → q ≡ q′

@@ -1,9 +1,9 @@
 -- Words written over, one after the other: the next word of a bitmap, what is not yet written, and what is never written.
-use mathlib.Core.Path.{_≡_, refl, sym, ap, ap₂, _∙_}
+use mathlib.Core.Path.{_≡_, refl, sym, ap, _∙_}
 use mathlib.Core.Bool.{Bool, true, false, _&&_}
 use mathlib.Core.Logic.{_⊎_, inl, inr}
 use mathlib.Core.List.{List}
-use Prim.Native.Nat.{ℕ, zero, suc, _+_, _*_, _≤_, _<_, max}
+use Prim.Native.Nat.{ℕ, suc, _+_, _*_, _≤_, _<_, max}
 use native.Mathlib.Omega.{arith}
 use borrow.Author.Tests.{lt-ltb, le-ltb, le-leb, lt-leb}
 use native.Mathlib.Decide.{ℕ-discrete, decLt}
@@ -11,9 +11,9 @@ use native.Mathlib.Nat.{lt-of-not-le}
 use lib.ListN.{length, set}
 use lib.Dec.{ltb, leb}
 use Rattle.rules.specs.Word.{pick}
-use Rattle.rules.specs.Layout.{Bitmap, quotes, mask, colons, commas, Has, address, cell}
-use Rattle.rules.proofs.LayoutLaws.{Cells, cells-store, cells-only, laid-cells, own-cells}
-use Rattle.index.specs.Writing.{over, rewritten, marksTill}
+use Rattle.rules.specs.Layout.{Bitmap, Has, address, cell}
+use Rattle.rules.proofs.LayoutLaws.{Cells, cells-store, cells-only, laid-cells}
+use Rattle.index.specs.Writing.{over, rewritten}
 
 -- what a word is: in the part that is written, below it, and above it
 module _ (till : Bitmap → ℕ) (from : ℕ) (f old : Bitmap → ℕ → ℕ) (b : Bitmap) (w : ℕ) where
@@ -32,6 +32,13 @@ module _ (till : Bitmap → ℕ) (from : ℕ) (f old : Bitmap → ℕ → ℕ) (
       go : (d : Bool) → pick (d && ltb w (till b)) (f b w) (old b w) ≡ old b w
       go true = simp (le-ltb w (till b) q)
       go false = refl
+
+  pub over-out : (from ≤ w → w < till b → ⊥) → over till from f old b w ≡ old b w
+  over-out n = go (decLt w from)
+    where
+      go : Dec (w < from) → over till from f old b w ≡ old b w
+      go (yes l) = over-below l
+      go (no m) = let h : from ≤ w = omega (arith, lt-of-not-le m) in over-above (omega (arith, n h))
 
 -- two limits that say the same of a word
 pub over-same : (t u : Bitmap → ℕ) (from : ℕ) (f old : Bitmap → ℕ → ℕ) (b : Bitmap) (w : ℕ) → ltb w (t b) ≡ ltb w (u b) → over t from f old b w ≡ over u from f old b w
@@ -71,14 +78,8 @@ module _ (levels width from : ℕ) (f old : Bitmap → ℕ → ℕ) where
 -- nothing is written yet
 pub write-none : (levels width from : ℕ) (t : Bitmap → ℕ) (f : Bitmap → ℕ → ℕ) (words : List ℕ) → length words ≡ (2 + 2 * levels) * width → ((b : Bitmap) → t b ≤ from)
     → Cells levels width words (over t from f (cell words levels width))
-write-none levels width from t f words e none = record { long = e; holds = holds }
-  where
-    holds : (b : Bitmap) → Has levels b → (w : ℕ) → w < width → cell words levels width b w ≡ over t from f (cell words levels width) b w
-    holds b h w l = go (decLt w from)
-      where
-        go : Dec (w < from) → cell words levels width b w ≡ over t from f (cell words levels width) b w
-        go (yes k) = sym (over-below t from f (cell words levels width) b w k)
-        go (no n) = sym (over-above t from f (cell words levels width) b w (omega (arith, none b, lt-of-not-le n)))
+write-none levels width from t f words e none =
+    record { long = e; holds = λ b h w l. sym (over-out t from f (cell words levels width) b w (λ p q. omega (arith, none b))) }
 
 -- all is written
 pub write-all : (levels width from : ℕ) (t : Bitmap → ℕ) (f : Bitmap → ℕ → ℕ) (words out : List ℕ) → Cells levels width out (over t from f (cell words levels width))
@@ -106,3 +107,22 @@ write-end levels width from t u f words out p same =
         go : Dec (w < from) → over t from f (cell words levels width) b w ≡ over u from f (cell words levels width) b w
         go (yes k) = over-below t from f (cell words levels width) b w k ∙ sym (over-below u from f (cell words levels width) b w k)
         go (no n) = over-same t u from f (cell words levels width) b w (same b w (omega (arith, lt-of-not-le n)))
+
+-- two rules that say the same of each word that is written
+pub rewritten-ext : (levels width : ℕ) (t : Bitmap → ℕ) (from : ℕ) (f g : Bitmap → ℕ → ℕ) (words : List ℕ) → ((b : Bitmap) (w : ℕ) → from ≤ w → w < t b → f b w ≡ g b w)
+    → rewritten levels width t from f words ≡ rewritten levels width t from g words
+unfolding rewritten
+rewritten-ext levels width t from f g words same =
+    cells-only levels width (laid-cells levels width _) (laid-cells levels width _) (λ b h w l. go b w (decLt w from) (decLt w (t b)))
+  where
+    old : Bitmap → ℕ → ℕ
+    old = cell words levels width
+
+    go : (b : Bitmap) (w : ℕ) → Dec (w < from) → Dec (w < t b) → over t from f old b w ≡ over t from g old b w
+    go b w (yes l) d = over-below t from f old b w l ∙ sym (over-below t from g old b w l)
+    go b w (no n) (yes l) =
+        let h : from ≤ w = omega (arith, lt-of-not-le n) in
+        over-in t from f old b w h l ∙ same b w h l ∙ sym (over-in t from g old b w h l)
+    go b w (no n) (no m) =
+        let h : t b ≤ w = omega (arith, lt-of-not-le m) in
+        over-above t from f old b w h ∙ sym (over-above t from g old b w h)

@@ -1,6 +1,6 @@
 -- What the clauses of `escapes` cite.
 use Prim.Native.Nat.{ℕ, zero, suc}
-use mathlib.Core.Bool.{Bool, true, false, not, _&&_}
+use mathlib.Core.Bool.{Bool, not, _&&_}
 
 -- which places are escaped, where p marks the backslashes and c says whether place 0 is: the place after a backslash that is not itself escaped
 unfoldable pub escFrom : Bool → (ℕ → Bool) → ℕ → Bool

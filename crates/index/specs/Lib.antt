@@ -13,3 +13,5 @@ pub mod Stepping
 pub mod Opening
 pub mod Closing
 pub mod Numbers
+pub mod Types
+pub mod Frames

@@ -1,7 +1,7 @@
 // How far the brackets of a chunk move the depth.
 ghost use mathlib.Core.Path.{_≡_};
-ghost use mathlib.Core.Bool.{Bool, true, false};
-ghost use Prim.Native.Nat.{ℕ, _+_, _≤_};
+ghost use mathlib.Core.Bool.{Bool};
+ghost use Prim.Native.Nat.{ℕ, _+_};
 ghost use Rattle.index.specs.Swinging.{Small, past, swing, Brackets};
 
 // The openers and the closers passed, and how far at most the closers were ahead, and the openers. Two counts in place of a difference,

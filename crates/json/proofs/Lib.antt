@@ -23,3 +23,4 @@ pub mod Members
 pub mod Steps
 pub mod Paths
 pub mod Sample
+pub mod EndToEnd

@@ -219,13 +219,13 @@ selected text words levels path ss t x =
       le-leb 1 levels (x .range .low),
       le-leb levels 16 (x .range .high),
       eq-eqb (length words) (sizeOf levels (length text)) (x .promised .long),
-      le-ltb 1024 (length path) (x .short),
-      reads (x .derived),
-      x .small,
-      le-ltb levels (length ss) (x .enough),
-      walk-promised text levels words ss (x .promised) (x .enough),
+      le-ltb 1024 (length path) (x .within .short),
+      reads (x .within .derived),
+      x .within .small,
+      le-ltb levels (length ss) (x .within .enough),
+      walk-promised text levels words ss (x .promised) (x .within .enough),
     )
-    (walk-selects text t path ss (x .derived))
+    (walk-selects text t path ss (x .within .derived))
 
 unbroken : (text words : List ℕ) (levels : ℕ) (path : List ℕ) (t : Text text) → deep (valueOf (t .derivation)) ≤ 64 → Promise text levels words
     → numberOf (answerOf text words levels path) ≢ 27

@@ -77,10 +77,12 @@ sample-asked = record {
   size = omega arith;
   range = omega arith;
   promised = index-holds sample 2;
-  short = omega arith;
-  derived = Path.root (Steps.dot (Name.starts (Letter.lower {b = 0x61} (omega arith)) Rest.none) (Steps.bracket (Numeral.digits {b = 0x31} (omega arith) More.none) Steps.none));
-  small = refl;
-  enough = omega arith;
+  within = record {
+    short = omega arith;
+    derived = Path.root (Steps.dot (Name.starts (Letter.lower {b = 0x61} (omega arith)) Rest.none) (Steps.bracket (Numeral.digits {b = 0x31} (omega arith) More.none) Steps.none));
+    small = refl;
+    enough = omega arith;
+  };
 }
 
 selects-one : {text : List ℕ} {t : Json} {x : Answer} → Selects text (t ∷ []) x → x ≡ Found (firstOf t) (firstOf t + length (bytesOf t))

@@ -26,15 +26,19 @@ pub record Obeys (text : List ℕ) : Type 0 where
 abbrev pub root : {text : List ℕ} → Obeys text → Json
 root t = valueOf (t .json .derivation)
 
--- a path of the subset within its limits, over words as close promises them, with a level for each step
-pub record Asked (text words : List ℕ) (levels : ℕ) (path : List ℕ) (ss : List Selector) : Type 0 where
-  pub size : length text ≤ 16777216
-  pub range : In 1 16 levels
-  pub promised : Promise text levels words
+-- a path of the subset within its limits, with a level for each step
+pub record Within (levels : ℕ) (path : List ℕ) (ss : List Selector) : Type 0 where
   pub short : length path ≤ 1024
   pub derived : Path path ss
   pub small : large ss ≡ false
   pub enough : length ss ≤ levels
+
+-- and a text within the size, with words as close promises them
+pub record Asked (text words : List ℕ) (levels : ℕ) (path : List ℕ) (ss : List Selector) : Type 0 where
+  pub size : length text ≤ 16777216
+  pub range : In 1 16 levels
+  pub promised : Promise text levels words
+  pub within : Within levels path ss
 
 -- a nodelist and an answer: one node, its places, and the part is exactly its bytes; or no node, and 23 to 26
 pub data Selects (text : List ℕ) : List Json → Answer → Type 0 where

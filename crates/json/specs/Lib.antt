@@ -2,3 +2,4 @@ pub mod Grammar
 pub mod Select
 pub mod Texts
 pub mod Demand2
+pub mod EndToEnd

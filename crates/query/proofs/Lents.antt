@@ -16,10 +16,8 @@ pub address-in : (s : Shape) (m : Map) (w : ℕ) → Readable s m (64 * w + 64)
     → (address (s .levels) (s .width) (mapped m) w < (2 + 2 * s .levels) * s .width) × ((2 + 2 * s .levels) * s .width ≤ 8912896)
 unfolding widthOf sizeOf
 address-in s m w r =
-    let e : widthOf (64 * s .width) ≡ s .width = omega arith in
     let l : 2 + 2 * s .levels ≤ 34 = omega (arith, r .levels) in (
-      subst (λ (x : ℕ). address (s .levels) x (mapped m) w < (2 + 2 * s .levels) * x) e
-          (address-lt (s .levels) (64 * s .width) (mapped m) w (r .has) (omega (arith, r .inside))),
+      address-lt (s .levels) (s .width) (mapped m) w (r .has) (omega (arith, r .inside)),
       omega (arith, mul-le-mul-right (s .width) l, r .width),
     )
 

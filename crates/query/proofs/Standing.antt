@@ -12,7 +12,7 @@ use lib.Dec.{eqb}
 use lib.Pow.{shr-shr, shr-le, pow-mono}
 use lib.Count.{ones, trailingZeros, under}
 use Rattle.rules.specs.Word.{digit, count, bit}
-use Rattle.rules.specs.Layout.{Bitmap, address, bitIn}
+use Rattle.rules.specs.Layout.{Bitmap, address, bitIn, cell}
 use Rattle.rules.proofs.WordLaws.{word-bits, ones-word}
 use Rattle.rules.proofs.Counting.{count-ext, count-cat}
 
@@ -75,7 +75,7 @@ pub record Standing (t : ℕ → Bool) (w at x : ℕ) : Type 0 where
 -- the bits of a lent word are the bitmap's
 lent-word : (words : List ℕ) (levels width : ℕ) (b : Bitmap) (w r j : ℕ) → r ≡ getD words (address levels width b w) 0 → j < 64
     → bit r j ≡ bitIn words levels width b (w * 64 + j)
-unfolding bitIn
+unfolding bitIn cell
 lent-word words levels width b w r j e l =
     let q : (w * 64 + j) / 64 ≡ w = omega arith in
     let m : (w * 64 + j) % 64 ≡ j = omega arith in

@@ -8,7 +8,7 @@ use Rattle.rules.specs.Word.{odd, count, word, wordAt, bit}
 use Rattle.rules.specs.Bytes.{is, has}
 use Rattle.rules.specs.Bits.{runBefore, escaped, quoteBit, inString, maskBit, plain, opener, closer, atDepth, levelBit}
 use Rattle.rules.specs.Faults.{Verdict, sound, faulty, closesNone, opensOver, atEnd, faultFrom, faultOf}
-use Rattle.rules.specs.Layout.{Bitmap, quotes, mask, colons, commas, widthOf, sizeOf, row, bitmapOf, address, bitIn, bitOf, listed, index}
+use Rattle.rules.specs.Layout.{Bitmap, quotes, mask, colons, commas, widthOf, sizeOf, row, bitmapOf, address, bitIn, bitOf, listed, index, laid, cell}
 use Rattle.query.specs.Places.{byteIn, firstIn, firstAt, pastLastIn, pastLast}
 use Rattle.query.specs.Items.{isBlank, valueAt, same, quoted, keyed, itemAt, itemsIn, items, itemNo}
 use Rattle.query.specs.Path.{isDigit, isHead, isTail, decimal, stepAt, readFrom, readPath, large}
@@ -134,5 +134,5 @@ table =
     []
 
 reports : T (every table)
-unfolding every table odd count word wordAt bit is has runBefore escaped quoteBit inString maskBit plain opener closer atDepth levelBit closesNone opensOver atEnd faultFrom faultOf widthOf sizeOf row bitmapOf address bitIn bitOf listed index byteIn firstIn firstAt pastLastIn pastLast isBlank valueAt same quoted keyed itemAt itemsIn items itemNo isDigit isHead isTail decimal stepAt readFrom readPath large framed filled nameStep numberStep walkFrom walk answerOf
+unfolding every table odd count word wordAt bit is has runBefore escaped quoteBit inString maskBit plain opener closer atDepth levelBit closesNone opensOver atEnd faultFrom faultOf widthOf sizeOf row bitmapOf address cell bitIn bitOf listed laid index byteIn firstIn firstAt pastLastIn pastLast isBlank valueAt same quoted keyed itemAt itemsIn items itemNo isDigit isHead isTail decimal stepAt readFrom readPath large framed filled nameStep numberStep walkFrom walk answerOf
 reports = tt

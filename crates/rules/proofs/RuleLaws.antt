@@ -1,15 +1,12 @@
 -- Each rule one byte further, or from a border on; and the mask of a byte of the record. By the definitions' own recursion on the place.
-use mathlib.Core.Path.{_≡_, refl, sym, ap, _∙_}
+use mathlib.Core.Path.{_≡_, refl, ap, _∙_}
 use mathlib.Core.Bool.{Bool, true, false, not, _&&_, _||_}
 use mathlib.Core.List.{List}
-use Prim.Native.Nat.{ℕ, zero, suc, _+_, _-_, _≤_, _<_}
-use native.Mathlib.Omega.{arith}
-use native.Mathlib.Nat.{lt-of-not-le}
-use native.Mathlib.Decide.{decLt}
+use Prim.Native.Nat.{ℕ, suc, _+_, _≤_, _<_}
 use borrow.Author.Tests.{lt-ltb, le-ltb, eqb-true}
 use lib.ListN.{length, getD, List·getD-eq-default}
-use lib.Dec.{eqb, ltb}
-use Rattle.rules.specs.Word.{digit, xor, odd, count}
+use lib.Dec.{eqb}
+use Rattle.rules.specs.Word.{xor, odd, count}
 use Rattle.rules.specs.Bytes.{Class, quote, backslash, opens, closes, colon, comma, is, has}
 use Rattle.rules.specs.Bits.{grow, runBefore, escaped, quoteBit, inString, maskBit, plain}
 use Rattle.rules.proofs.Counting.{odd-digit, count-cat, odd-cat}

@@ -3,4 +3,3 @@ pub mod Bytes
 pub mod Bits
 pub mod Faults
 pub mod Layout
-pub mod Reports

@@ -15,9 +15,9 @@ use Rattle.rules.specs.Bits.{opener, closer, atDepth, maskBit}
 use Rattle.rules.specs.Faults.{Verdict, sound, faulty, closesNone, opensOver, faultFrom}
 use Rattle.index.specs.declared.Fault.{Fault}
 use Rattle.index.specs.declared.Fault.the-variants.{Closer, Opener}
-use Rattle.index.specs.declared.settling.Sought.{Sought}
-use Rattle.index.specs.declared.settling.Sought.the-variants.{On, At}
-use Rattle.index.specs.Answers.{faultNumber, faultPlace}
+use Rattle.index.specs.Types.{Sought}
+use Rattle.index.specs.Types.{On, At}
+use Rattle.runs.specs.Runs.{verdictOf}
 use Rattle.index.specs.Swinging.{dip, peak, Apart}
 use Rattle.index.specs.Settling.{limitOf, faultOfBracket, depthPast, seek}
 use Rattle.index.proofs.SeekLaws.{seek-none, seek-fault, seek-past, seek-on, seek-at}
@@ -88,12 +88,9 @@ module _ (o c : ℕ → Bool) (apart : Apart o c) (a d : ℕ) where
 
 -- ---- the walk from the true depth, and the record's faults
 
-pub verdictOf : Fault → Verdict
-verdictOf f = faulty (faultNumber f) (faultPlace f)
-
 module _ (text : List ℕ) where
   -- d is the depth at a
-  pub Depth : ℕ → ℕ → Type 0
+  unfoldable pub Depth : ℕ → ℕ → Type 0
   Depth d a = d + count (closer text) a ≡ count (opener text) a
 
   apart : Apart (opener text) (closer text)

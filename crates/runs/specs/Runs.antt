@@ -1,13 +1,19 @@
 -- Runs of a job over one unchanged record: an opening, any calls in any order, each with the job and the words that the last one left.
 use mathlib.Core.Path.{_≡_}
-use mathlib.Core.Bool.{Bool}
+use mathlib.Core.Bool.{Bool, not}
 use mathlib.Core.List.{List, [], _∷_}
-use Prim.Native.Nat.{ℕ}
+use Prim.Native.Nat.{ℕ, zero, suc, _+_}
 use lib.ListN.{length}
 use Rattle.index.specs.declared.Answer.{Answer}
 use Rattle.index.specs.declared.Answer.the-variants.{Done, Faulty}
 use Rattle.index.specs.declared.Fault.{Fault}
 use Rattle.index.specs.declared.Job.{Job}
+use Rattle.rules.specs.Word.{digit}
+use Rattle.rules.specs.Faults.{Verdict, faulty}
+use Rattle.index.specs.Types.{Chunk, Scan, Settle, Level}
+use Rattle.index.specs.Checks.{chunkAt, refusal}
+use Rattle.index.specs.Answers.{faultNumber, faultPlace}
+use Rattle.index.specs.Numbers.{Refuses}
 use Rattle.index.specs.Opening.{opening, opened}
 use Rattle.index.specs.Scanning.{scanned, scannedWords}
 use Rattle.index.specs.Settling.{settled, settledWords}
@@ -55,6 +61,10 @@ pub record Reached (text : List ℕ) (levels : ℕ) (h : Held) : Type 0 where
   pub accepted : opening (length text) (length words) levels cuts ≡ Done
   pub leads : run text calls (start text levels cuts words) ≡ h
 
+-- a fault that a call names, as the rules name it: its number and its place
+unfoldable pub verdictOf : Fault → Verdict
+verdictOf f = faulty (faultNumber f) (faultPlace f)
+
 -- an answer of close that ends the job
 pub data Ends : Answer → Type 0 where
   done : Ends Done
@@ -67,3 +77,26 @@ pub record ClosedRun (text : List ℕ) (levels : ℕ) (a : Answer) (after : List
   pub answers : answer text close before ≡ a
   pub ends : Ends a
   pub leaves : act text close before .words ≡ after
+
+-- the steps that a chunk has not had, and those of a job
+unfoldable pub lacks : Chunk → ℕ
+lacks c = digit (not (c .scanned)) + digit (not (c .settled)) + digit (not (c .levelled))
+
+-- f 0 + .. + f (m - 1)
+unfoldable pub total : (ℕ → ℕ) → ℕ → ℕ
+total f zero = 0
+total f (suc m) = total f m + f m
+
+unfoldable pub stepsLeft : Job → ℕ
+stepsLeft j = total (λ k. lacks (chunkAt j k)) (j .count)
+
+-- a step that the job accepts
+pub data Next (text : List ℕ) (h : Held) : Call → Type 0 where
+  scan-next : (k : ℕ) (g : Bool) → refusal Scan (h .job) (length text) (length (h .words)) k ≡ Done → Next text h (scan k g)
+  settle-next : (k : ℕ) → refusal Settle (h .job) (length text) (length (h .words)) k ≡ Done → Next text h (settle k)
+  level-next : (k : ℕ) → refusal Level (h .job) (length text) (length (h .words)) k ≡ Done → Next text h (level k)
+
+-- calls none of which is refused
+pub data Accepts (text : List ℕ) : List Call → Held → Type 0 where
+  none : {h : Held} → Accepts text [] h
+  more : {c : Call} {cs : List Call} {h : Held} → (Refuses (answer text c h) → ⊥) → Accepts text cs (act text c h) → Accepts text (c ∷ cs) h

@@ -1,6 +1,6 @@
 -- `inside_of` meets its contract.
 use borrow.Author.Needs.{needs}
-use mathlib.Core.Path.{_≡_, sym, _∙_}
+use mathlib.Core.Path.{sym, _∙_}
 use Rattle.index.proofs.SettleLaws.{inside-first, inside-next}
 use Rattle.index.proofs.Job.inside_of.Statement.{statement}
 use Rattle.index.proofs.Job.inside_of.Tie as tie

@@ -1,10 +1,10 @@
 -- `Job::level` meets its contract.
 use borrow.Author.Needs.{needs}
-use mathlib.Core.Path.{_≡_, sym, ap, ap₂, _∙_}
+use mathlib.Core.Path.{sym, ap, ap₂, _∙_}
 use native.Mathlib.Omega.{arith}
 use Rattle.index.specs.declared.Step.the-variants.{Level}
 use Rattle.index.specs.declared.checks.Span.{Span}
-use Rattle.index.specs.Checks.{chunkAt, withChunk}
+use Rattle.index.specs.Checks.{chunkAt}
 use Rattle.index.specs.Levelling.{levelChunk, levelWords, levelled, levelledWords}
 use Rattle.index.proofs.StepLaws.{fitting, lent-chunk, handed, as-refused, as-done}
 use Rattle.index.proofs.Job.level.Statement.{statement}

@@ -1,6 +1,6 @@
 -- `Job::scan` meets its contract.
 use borrow.Author.Needs.{needs}
-use mathlib.Core.Path.{_≡_, sym, ap, ap₂, _∙_}
+use mathlib.Core.Path.{sym, ap, ap₂, _∙_}
 use Rattle.index.specs.declared.Step.the-variants.{Scan}
 use Rattle.index.specs.Checks.{withChunk}
 use Rattle.index.specs.Scanning.{scanned, scannedWords}

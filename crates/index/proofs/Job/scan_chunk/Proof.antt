@@ -1,23 +1,19 @@
 -- `scan_chunk` meets its contract.
 use borrow.Author.Needs.{needs}
-use mathlib.Core.Path.{_≡_, refl, sym, ap, ap₂, _∙_, subst}
-use mathlib.Core.Path.{_≡_, refl, sym, ap, ap₂, _∙_, subst}
+use mathlib.Core.Path.{_≡_, sym, ap, ap₂, _∙_, subst}
 use mathlib.Core.Bool.{Bool, true}
 use mathlib.Core.List.{List}
 use Prim.Native.Nat.{ℕ, _+_, _*_, _-_}
 use native.Mathlib.Omega.{arith}
-use lib.ListN.{length}
 use Rattle.rules.specs.Word.{xor, odd, count}
 use Rattle.rules.specs.Bits.{quoteBit}
 use Rattle.rules.proofs.Booleans.{bool2}
 use Rattle.index.specs.declared.Kept.{Kept}
-use Rattle.index.specs.declared.Chunk.{Chunk}
 use Rattle.index.specs.declared.checks.Span.{Span}
 use Rattle.index.specs.declared.scanning.Swept.{Swept}
 use Rattle.index.specs.Guessing.{guessed}
 use Rattle.index.specs.Swinging.{Small}
-use Rattle.index.specs.Writing.{Lent}
-use Rattle.index.specs.Checks.{chunkAt, spanOf}
+use Rattle.index.specs.Checks.{chunkAt}
 use Rattle.index.specs.Depth.{keptOf}
 use Rattle.index.specs.Scanning.{oddIn, sweptOf, scanWords, scanKept, scanChunk}
 use Rattle.index.proofs.StepLaws.{lent-chunk, small-swing}

@@ -1,6 +1,6 @@
 -- `Job::settle` meets its contract: refused, nothing; accepted, by what was found.
 use borrow.Author.Needs.{needs}
-use mathlib.Core.Path.{_≡_, refl, sym, ap, ap₂, _∙_}
+use mathlib.Core.Path.{_≡_, sym, ap, ap₂, _∙_}
 use mathlib.Core.Bool.{Bool}
 use mathlib.Core.List.{List}
 use Prim.Native.Nat.{ℕ}
@@ -12,7 +12,6 @@ use Rattle.index.specs.declared.Chunk.{Chunk}
 use Rattle.index.specs.declared.Job.{Job}
 use Rattle.index.specs.declared.checks.Span.{Span}
 use Rattle.index.specs.declared.settling.Found.{Found}
-use Rattle.index.specs.declared.settling.Found.the-variants.{Nothing, Here}
 use Rattle.index.specs.Checks.{withChunk, withState, spanOf, isLast, refusal}
 use Rattle.index.specs.Stepping.{Fitting}
 use Rattle.index.specs.Writing.{Lent}

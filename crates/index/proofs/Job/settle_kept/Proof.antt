@@ -1,12 +1,12 @@
 -- `settle_kept` meets its contract: a right guess changes nothing.
 use borrow.Author.Needs.{needs}
 use borrow.Author.Tests.{not-true, not-false}
-use mathlib.Core.Path.{_≡_, refl, sym, ap, ap₂, _∙_, subst}
-use mathlib.Core.Bool.{Bool, true, false}
+use mathlib.Core.Path.{_≡_, sym, ap, _∙_, subst}
+use mathlib.Core.Bool.{true, false}
 use mathlib.Core.List.{List}
 use Prim.Native.Nat.{ℕ}
 use lib.ListN.{length}
-use Rattle.rules.specs.Word.{pick, xor}
+use Rattle.rules.specs.Word.{xor}
 use Rattle.index.specs.declared.Kept.{Kept}
 use Rattle.index.specs.declared.Job.{Job}
 use Rattle.index.specs.declared.checks.Span.{Span}

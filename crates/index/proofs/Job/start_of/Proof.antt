@@ -1,6 +1,6 @@
 -- `start_of` meets its contract.
 use borrow.Author.Needs.{needs}
-use mathlib.Core.Path.{_≡_, sym, ap, _∙_}
+use mathlib.Core.Path.{sym, ap, _∙_}
 use Prim.Native.Nat.{_-_}
 use lib.IntN.{ℤ, pos, _+ℤ_}
 use Rattle.index.specs.Checks.{chunkAt}

@@ -1,5 +1,4 @@
 -- `address_of` meets its contract: a row of the buffer is the row of its bitmap.
-use borrow.Author.Needs.{needs}
 use mathlib.Core.Path.{sym}
 use native.Mathlib.Omega.{arith}
 use Rattle.index.proofs.RowLaws.{row-few, row-is, row-in}

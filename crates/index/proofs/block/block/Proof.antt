@@ -1,6 +1,6 @@
 -- `block` meets its contract: behind the end, the block is that of the padded bytes.
 use borrow.Author.Needs.{needs}
-use mathlib.Core.Path.{_≡_, ap, _∙_, subst, fun-ext}
+use mathlib.Core.Path.{ap, _∙_, subst, fun-ext}
 use Prim.Native.Nat.{ℕ}
 use lib.ListN.{getD}
 use native.Mathlib.Nat.{zero-add}

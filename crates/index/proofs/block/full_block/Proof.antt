@@ -1,7 +1,7 @@
 -- `full_block` meets its contract: each word is made of a lane of its four quarters.
 use borrow.Author.Needs.{needs}
-use mathlib.Core.Path.{_≡_, _∙_}
-use Prim.Native.Nat.{ℕ, _+_}
+use mathlib.Core.Path.{_∙_}
+use Prim.Native.Nat.{_+_}
 use lib.ListN.{getD}
 use Rattle.rules.specs.Bytes.{is}
 use Rattle.index.proofs.Lanes.{lanes-read, joined-is}

@@ -1,7 +1,6 @@
 -- `two_of` meets its contract.
-use borrow.Author.Needs.{needs}
 use borrow.Author.Tests.{eq-eqb, ne-eqb}
-use mathlib.Core.Path.{_≡_, sym, ap, _∙_}
+use mathlib.Core.Path.{sym, _∙_}
 use Rattle.index.proofs.block.two_of.Statement.{statement}
 use Rattle.index.proofs.block.two_of.Tie as tie
 

@@ -15,7 +15,7 @@ use lib.Dec.{ltb}
 use Rattle.rules.specs.Word.{pick}
 use Rattle.rules.specs.Layout.{Bitmap, quotes, mask, colons, commas, row, bitmapOf, address, Has}
 use Rattle.rules.proofs.LayoutLaws.{Cells, row-bitmap}
-use Rattle.index.specs.Writing.{over, levelsTill, InRow}
+use Rattle.index.specs.Writing.{over, levelsTill}
 use Rattle.index.proofs.WriteLaws.{next-limit, over-same, write-next}
 use Rattle.index.proofs.levelling.store.Statement.{statement}
 use Rattle.index.proofs.levelling.store.Tie as tie

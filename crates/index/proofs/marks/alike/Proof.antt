@@ -1,7 +1,7 @@
 -- `alike` meets its contract.
-use mathlib.Core.Path.{_≡_, sym, ap, _∙_}
+use mathlib.Core.Path.{sym, ap}
 use mathlib.Core.Bool.{Bool}
-use Prim.Native.Nat.{ℕ, _-_, _*_, _^_}
+use Prim.Native.Nat.{_-_, _*_, _^_}
 use Rattle.rules.specs.Word.{digit}
 use Rattle.rules.proofs.WordLaws.{word-each}
 use Rattle.index.proofs.marks.alike.Statement.{statement}

@@ -1,8 +1,8 @@
 -- `live` meets its contract.
 use borrow.Author.Needs.{needs}
 use native.Mathlib.Omega.{arith}
-use mathlib.Core.Path.{_≡_, sym, ap, _∙_}
-use Prim.Native.Nat.{ℕ, _-_, _^_}
+use mathlib.Core.Path.{sym, ap, _∙_}
+use Prim.Native.Nat.{ℕ, _-_}
 use lib.Pow.{pow-pos}
 use Rattle.rules.proofs.WordLaws.{one-shl, word-below, word-full}
 use Rattle.index.proofs.marks.live.Statement.{statement}

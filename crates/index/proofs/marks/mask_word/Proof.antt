@@ -1,14 +1,12 @@
 -- `mask_word` meets its contract.
 use borrow.Author.Needs.{needs}
-use mathlib.Core.Path.{_≡_, sym, ap, ap₂, _∙_}
+use mathlib.Core.Path.{_≡_, ap, ap₂, _∙_}
 use mathlib.Core.Bool.{Bool, _&&_}
 use Prim.Native.Nat.{ℕ, suc}
 use lib.Bits.{bitAnd, bitXor}
-use Rattle.rules.specs.Word.{word, digit}
-use Rattle.rules.specs.Word.{odd, count}
+use Rattle.rules.specs.Word.{word, odd, count, xor}
 use Rattle.rules.proofs.Booleans.{bool2}
 use Rattle.rules.proofs.WordLaws.{and-word, xor-word, word-ext, top-test}
-use Rattle.rules.specs.Word.{xor}
 use Rattle.rules.proofs.Counting.{odd-digit}
 use Rattle.index.proofs.marks.mask_word.Statement.{statement}
 use Rattle.index.proofs.marks.mask_word.Tie as tie

@@ -1,8 +1,8 @@
 -- `mark_word` meets its contract, by what its leaves say of their words.
 use borrow.Author.Needs.{needs}
-use mathlib.Core.Path.{_≡_, sym, _∙_}
-use mathlib.Core.Bool.{Bool, false, _&&_}
-use Prim.Native.Nat.{ℕ, _+_, _*_, _-_}
+use mathlib.Core.Path.{_∙_}
+use mathlib.Core.Bool.{false}
+use Prim.Native.Nat.{_+_, _*_, _-_}
 use lib.ListN.{length}
 use lib.Dec.{ltb}
 use Rattle.rules.specs.Word.{wordAt}

@@ -1,7 +1,7 @@
 -- `announces` meets its contract.
 use borrow.Author.Needs.{needs}
-use mathlib.Core.Path.{_≡_, refl, sym, ap, ap₂, _∙_}
-use mathlib.Core.Bool.{Bool, true, false, _||_}
+use mathlib.Core.Path.{sym, ap, _∙_}
+use mathlib.Core.Bool.{Bool, _||_}
 use lib.IntN.{ℤ, pos, _+ℤ_}
 use Rattle.index.specs.Depth.{belowZero, above64}
 use Rattle.index.specs.Settling.{announced}

@@ -1,6 +1,6 @@
 -- `end_fault` meets its contract.
 use borrow.Author.Needs.{needs}
-use mathlib.Core.Path.{_≡_, sym, _∙_}
+use mathlib.Core.Path.{sym, _∙_}
 use Rattle.index.proofs.Signed.{back32}
 use Rattle.index.proofs.SettleLaws.{end-string, end-bracket, end-none}
 use Rattle.index.proofs.settling.end_fault.Statement.{statement}

@@ -1,6 +1,4 @@
 -- `fault_at` meets its contract.
-use borrow.Author.Needs.{needs}
-use mathlib.Core.Path.{refl}
 use Rattle.index.proofs.settling.fault_at.Statement.{statement}
 use Rattle.index.proofs.settling.fault_at.Tie as tie
 

@@ -1,7 +1,7 @@
 -- `sought_fault` meets its contract: the place is looked for only where the counts announce a fault.
 use borrow.Author.Needs.{needs}
 use borrow.Author.Tests.{not-true, not-false}
-use mathlib.Core.Path.{_≡_, sym, ap, _∙_}
+use mathlib.Core.Path.{sym, ap, _∙_}
 use Rattle.index.specs.Settling.{ofSought}
 use Rattle.index.proofs.SettleLaws.{not-announced, is-announced}
 use Rattle.index.proofs.settling.sought_fault.Statement.{statement}

@@ -1,15 +1,14 @@
 -- `brackets` meets its contract: what was passed so far has swung as the places before `at` do, and the next set bit is the next bracket.
-use borrow.Author.Needs.{needs}
 use mathlib.Core.Path.{_≡_, sym, ap, _∙_, subst}
 use mathlib.Core.Bool.{Bool}
-use Prim.Native.Nat.{ℕ, _+_, _-_, _≤_, _<_}
+use Prim.Native.Nat.{ℕ, _+_, _-_}
 use native.Mathlib.Nat.{add-zero}
 use native.Mathlib.Omega.{arith}
 use lib.Bits.{bitOr, or-lt}
 use lib.Count.{trailingZeros}
 use Rattle.rules.specs.Word.{bit}
 use Rattle.rules.proofs.BitWalk.{Standing, standing-start, standing-low, standing-next, standing-none}
-use Rattle.index.specs.Swinging.{swing, past, Brackets, Small}
+use Rattle.index.specs.Swinging.{swing, Brackets, Small}
 use Rattle.index.specs.declared.swing.Swing.{Swing}
 use Rattle.index.proofs.SwingLaws.{small-up, small-past, bracket-next, brackets-end}
 use Rattle.index.proofs.swing.brackets.Statement.{statement}

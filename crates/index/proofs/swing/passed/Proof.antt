@@ -1,6 +1,6 @@
 -- `passed` meets its contract: what is farther than before is the new farthest.
 use borrow.Author.Needs.{needs}
-use mathlib.Core.Path.{_≡_, refl}
+use mathlib.Core.Path.{refl}
 use native.Mathlib.Omega.{arith}
 use Rattle.index.proofs.SwingLaws.{swing-eq}
 use Rattle.index.proofs.swing.passed.Statement.{statement}

@@ -1,0 +1,233 @@
+-- Demand 3: an open job has a step that it accepts, on the first chunk that is not levelled, until each chunk has had three; each lowers the steps
+-- that are left; then close is accepted. So every run can be brought to a close.
+use mathlib.Core.Path.{_≡_, refl, sym, ap, ap₂, _∙_, subst}
+use mathlib.Core.Bool.{Bool, true, false, not, _&&_}
+use mathlib.Core.Logic.{_⊎_, inl, inr, _↔_}
+use mathlib.Core.List.{List, [], _∷_, _++_}
+use Prim.Native.Nat.{ℕ, zero, suc, pred, _+_, _*_, _≤_, _<_}
+use native.Mathlib.Decide.{ℕ-discrete}
+use native.Mathlib.Omega.{arith}
+use lib.ListN.{length, replicate}
+use Rattle.rules.specs.Word.{digit}
+use Rattle.rules.specs.Faults.{sound, faultOf}
+use Rattle.index.specs.declared.Answer.{Answer}
+use Rattle.index.specs.declared.Answer.the-variants.{Done, Refused, Faulty}
+use Rattle.index.specs.declared.Fault.{Fault}
+use Rattle.index.specs.declared.Job.{Job}
+use Rattle.index.specs.Types.{Chunk, State, Open, Stopped, Closed, Step, Scan, Settle, Level, Found, Here}
+use Rattle.index.specs.Checks.{chunksOf, chunkAt, withChunk, spanOf, settledBefore, taken, ready, sameLengths, refusal}
+use Rattle.index.specs.Scanning.{scanChunk, scanned}
+use Rattle.index.specs.Settling.{settleChunk, settleWords, announced, soughtFault, foundBy, foundJob, settled}
+use Rattle.index.specs.Levelling.{levelChunk, levelled}
+use Rattle.index.specs.Closing.{every, allLevelled, closing, closed}
+use Rattle.index.proofs.CheckLaws.{Accepted, accepted, if-done}
+use Rattle.index.proofs.Cases.{found-case, state-case}
+use Rattle.index.proofs.CloseLaws.{stopped-fault, closing-done}
+use Rattle.runs.specs.Runs.{Call, scan, settle, level, close, Held, answer, act, run, start, Reached, Ends, ClosedRun, verdictOf, lacks, total, stepsLeft, Next, scan-next, settle-next, level-next}
+use Rattle.runs.proofs.Truth.{Truth, ChunkOk}
+use Rattle.runs.proofs.Spans.{Shape, count-is, chunk-new, chunk-old}
+use Rattle.runs.proofs.Steps.{clash}
+use Rattle.runs.proofs.Good.{Good}
+use Rattle.index.proofs.NumberLaws.{settle-fault}
+use Rattle.runs.proofs.Calls.{announced-found}
+use Rattle.runs.proofs.Reach.{Fine, scan-fine, settle-fine, level-fine}
+use Rattle.runs.proofs.Theorems.{good, stopped-named, lengths-exactly, sound-faulty}
+
+-- ---- "An open job over a sound record" is never stopped
+
+pub never-stopped : {text : List ℕ} {levels : ℕ} {h : Held} → faultOf text ≡ sound → Reached text levels h → (f : Fault) → h .job .state ≡ Stopped f → ⊥
+never-stopped s r f e = sound-faulty f (sym s ∙ stopped-named r f e)
+
+-- ---- the first chunk that is not levelled
+
+data Search (p : ℕ → Bool) (m : ℕ) : Type 0 where
+  all : ((i : ℕ) → i < m → p i ≡ true) → Search p m
+  first-not : (k : ℕ) → k < m → p k ≡ false → ((i : ℕ) → i < k → p i ≡ true) → Search p m
+
+search-first : (p : ℕ → Bool) (m : ℕ) → Search p m
+search-first p zero = all (λ i l. absurd (omega arith))
+search-first p (suc m) = go (search-first p m) (p m) refl
+  where
+    go : Search p m → (b : Bool) → p m ≡ b → Search p (suc m)
+    go (first-not k l e before) b q = first-not k (omega arith) e before
+    go (all h) false q = first-not m (omega arith) q h
+    go (all h) true q = all (λ i l. here i l (ℕ-discrete i m))
+      where
+        here : (i : ℕ) → i < suc m → Dec (i ≡ m) → p i ≡ true
+        here i l (yes e) = ap p e ∙ q
+        here i l (no n) = h i (omega (arith, n))
+
+every-all : (p : ℕ → Bool) (m : ℕ) → ((i : ℕ) → i < m → p i ≡ true) → every p m ≡ true
+unfolding every
+every-all p zero q = refl
+every-all p (suc m) q = ap₂ _&&_ (every-all p m (λ i l. q i (omega arith))) (q m (omega arith))
+
+module _ {text : List ℕ} {levels : ℕ} {h : Held} (r : Reached text levels h) (o : h .job .state ≡ Open) where
+  live : h .job .state ≡ Closed → ⊥
+  live e = let z : _≡_ {A = ℕ} 0 1 = cc in omega arith
+
+  g : Good text levels (h .job) (h .words)
+  g = good r live
+
+  abbrev j : Job
+  j = h .job
+
+  same : sameLengths j (length text) (length (h .words)) ≡ true
+  same = lengths-exactly r live (length text) (length (h .words)) .1 (refl, refl)
+
+  accept : (s : Step) (k : ℕ) → k < j .count → taken s (chunkAt j k) ≡ false → ready s j k ≡ true → refusal s j (length text) (length (h .words)) k ≡ Done
+  accept s k l t e = if-done s j (length text) (length (h .words)) k o same (omega (arith, l, count-is (g .shape))) t e
+
+  before-first : (k : ℕ) → k < j .count → ((i : ℕ) → i < k → chunkAt j i .levelled ≡ true) → settledBefore j k ≡ true
+  before-first zero l q = refl
+  before-first (suc k) l q = g .ok k (omega arith) .settled-first (q k (omega arith))
+
+  -- which step: the one that the first chunk that is not levelled has not had yet
+  pub some-step : (allLevelled j ≡ true) ⊎ ((c : Call) × Next text h c)
+  unfolding allLevelled
+  some-step = go (search-first (λ k. chunkAt j k .levelled) (j .count))
+    where
+      go : Search (λ k. chunkAt j k .levelled) (j .count) → (every (λ k. chunkAt j k .levelled) (chunksOf j) ≡ true) ⊎ ((c : Call) × Next text h c)
+      go (all q) = inl (every-all (λ k. chunkAt j k .levelled) (chunksOf j) (λ i l. q i (omega (arith, count-is (g .shape)))))
+      go (first-not k l e before) = inr (by-step (chunkAt j k .scanned) refl (chunkAt j k .settled) refl)
+        where
+          by-step : (a : Bool) → chunkAt j k .scanned ≡ a → (b : Bool) → chunkAt j k .settled ≡ b → (c : Call) × Next text h c
+          by-step false p b q = (scan k false, scan-next k false (accept Scan k l p refl))
+          by-step true p false q = (settle k, settle-next k (accept Settle k l q (ap₂ _&&_ p (before-first k l before))))
+          by-step true p true q = (level k, level-next k (accept Level k l e q))
+
+  -- "until each chunk has had three; then it closes"
+  pub then-closes : allLevelled j ≡ true → answer text close h ≡ Done
+  unfolding answer closed
+  then-closes e = closing-done j (length text) (length (h .words)) o same e
+
+-- a stopped job closes with its fault
+pub stopped-closes : {text : List ℕ} {levels : ℕ} {h : Held} → Reached text levels h → (f : Fault) → h .job .state ≡ Stopped f → answer text close h ≡ Faulty f
+unfolding answer closed
+stopped-closes {text} {levels} {h} r f e =
+    stopped-fault (h .job) (length text) (length (h .words)) f e (lengths-exactly r (λ c. let z : _≡_ {A = ℕ} 0 1 = cc in omega arith) (length text) (length (h .words)) .1 (refl, refl))
+
+-- ---- each accepted step lowers the steps left
+
+total-ext : (f f′ : ℕ → ℕ) (m : ℕ) → ((i : ℕ) → i < m → f i ≡ f′ i) → total f m ≡ total f′ m
+unfolding total
+total-ext f f′ zero h = refl
+total-ext f f′ (suc m) h = ap₂ _+_ (total-ext f f′ m (λ i l. h i (omega arith))) (h m (omega arith))
+
+total-less : (f f′ : ℕ → ℕ) (m k : ℕ) → k < m → ((i : ℕ) → (i ≡ k → ⊥) → f′ i ≡ f i) → f′ k < f k → total f′ m < total f m
+unfolding total
+total-less f f′ zero k l same less = absurd (omega arith)
+total-less f f′ (suc m) k l same less = go (ℕ-discrete k m) (λ b. total-less f f′ m k b same less)
+  where
+    go : Dec (k ≡ m) → (k < m → total f′ m < total f m) → total f′ m + f′ m < total f m + f m
+    go (yes e) rest =
+        let under = total-ext f′ f m (λ i b. same i (λ q. omega arith)) in
+        omega (arith, under, subst (λ (x : ℕ). f′ x < f x) e less)
+    go (no n) rest = omega (arith, rest (omega (arith, n)), same m (λ q. n (sym q)))
+
+-- a chunk anew that lacks less
+left-less : {text : List ℕ} {levels : ℕ} {j : Job} {words : List ℕ} → Shape text levels j words → (k : ℕ) (c : Chunk) → k < j .count → lacks c < lacks (chunkAt j k) → stepsLeft (withChunk j k c) < stepsLeft j
+unfolding stepsLeft
+left-less {text} {levels} {j} s k c l less =
+    let few : k < 64 = omega (arith, s .many) in
+    total-less (λ i. lacks (chunkAt j i)) (λ i. lacks (chunkAt (withChunk j k c) i)) (j .count) k l (λ i n. ap lacks (chunk-old j (s .room) k few c i n))
+    (subst (λ (x : Chunk). lacks x < lacks (chunkAt j k)) (sym (chunk-new j (s .room) k few c)) less)
+
+found-left : (x : Found) (j : Job) → stepsLeft (foundJob x j) ≡ stepsLeft j
+unfolding stepsLeft
+found-left x j = found-case (λ y. stepsLeft (foundJob y j) ≡ stepsLeft j) refl (λ f. refl) x
+
+-- what each step adds
+lacks-scan : (j : Job) (text : List ℕ) (k : ℕ) (x : Bool) → chunkAt j k .scanned ≡ false → lacks (scanChunk j text k x) < lacks (chunkAt j k)
+unfolding lacks scanChunk
+lacks-scan j text k x e = omega (arith, ap (λ (b : Bool). digit (not b)) e)
+
+lacks-settle : (j : Job) (text words : List ℕ) (k : ℕ) → chunkAt j k .settled ≡ false → lacks (settleChunk j text words k) < lacks (chunkAt j k)
+unfolding lacks settleChunk
+lacks-settle j text words k e = omega (arith, ap (λ (b : Bool). digit (not b)) e)
+
+lacks-level : (j : Job) (k : ℕ) → chunkAt j k .levelled ≡ false → lacks (levelChunk j k) < lacks (chunkAt j k)
+unfolding lacks levelChunk
+lacks-level j k e = omega (arith, ap (λ (b : Bool). digit (not b)) e)
+
+pub lowers : {text : List ℕ} {levels : ℕ} {h : Held} {c : Call} → Reached text levels h → h .job .state ≡ Open → Next text h c → stepsLeft (act text c h .job) < stepsLeft (h .job)
+unfolding act scanned settled levelled
+lowers {text} {levels} {h} r o (scan-next k x e) =
+    let a = accepted Scan (h .job) (length text) (length (h .words)) k e in
+    let s = g r o .shape in
+    rw e (left-less s k (scanChunk (h .job) text k x) (omega (arith, a .chunk, count-is s)) (lacks-scan (h .job) text k x (a .untaken)))
+lowers {text} {levels} {h} r o (settle-next k e) =
+    let a = accepted Settle (h .job) (length text) (length (h .words)) k e in
+    let s = g r o .shape in
+    let after = settleWords (h .job) text (h .words) k in
+    rw (e, found-left) (left-less s k (settleChunk (h .job) text after k) (omega (arith, a .chunk, count-is s)) (lacks-settle (h .job) text after k (a .untaken)))
+lowers {text} {levels} {h} r o (level-next k e) =
+    let a = accepted Level (h .job) (length text) (length (h .words)) k e in
+    let s = g r o .shape in
+    rw e (left-less s k (levelChunk (h .job) k) (omega (arith, a .chunk, count-is s)) (lacks-level (h .job) k (a .untaken)))
+
+-- ---- every run can be brought to a close
+
+run-more : (text : List ℕ) (cs : List Call) (c : Call) (h : Held) → run text (cs ++ (c ∷ [])) h ≡ act text c (run text cs h)
+unfolding run
+run-more text [] c h = refl
+run-more text (d ∷ cs) c h = run-more text cs c (act text d h)
+
+pub reach-more : {text : List ℕ} {levels : ℕ} {h : Held} (c : Call) → Reached text levels h → Reached text levels (act text c h)
+reach-more {text} {levels} {h} c r =
+    record {
+      cuts = r .cuts;
+      words = r .words;
+      calls = r .calls ++ (c ∷ []);
+      accepted = r .accepted;
+      leads = run-more text (r .calls) c (start text levels (r .cuts) (r .words)) ∙ ap (act text c) (r .leads);
+    }
+
+-- a step leaves an open job open or stopped
+step-live : {text : List ℕ} {levels : ℕ} {h : Held} {c : Call} → Reached text levels h → h .job .state ≡ Open → Next text h c → act text c h .job .state ≡ Closed → ⊥
+unfolding Fine
+step-live {text} {levels} {h} r o (scan-next k x e) = scan-fine text levels k x h (g r o) .live
+step-live {text} {levels} {h} r o (settle-next k e) = settle-fine text levels k h (g r o) .live
+step-live {text} {levels} {h} r o (level-next k e) = level-fine text levels k h (g r o) .live
+
+by-fuel : {text : List ℕ} {levels : ℕ} (fuel : ℕ) (h : Held) → Reached text levels h → (h .job .state ≡ Closed → ⊥) → stepsLeft (h .job) < fuel → (cs : List Call) × Ends (answer text close (run text cs h))
+unfolding run
+by-fuel {text} {levels} zero h r l b = absurd (omega arith)
+by-fuel {text} {levels} (suc fuel) h r l b =
+    state-case (λ s. h .job .state ≡ s → (cs : List Call) × Ends (answer text close (run text cs h))) (λ o. opened o (some-step r o) (λ c. by-fuel fuel (act text c h) (reach-more c r)))
+    (λ f e. ([], subst Ends (sym (stopped-closes r f e)) (Ends.fault f))) (λ e. absurd (l e)) (h .job .state) refl
+  where
+    opened : h .job .state ≡ Open → (allLevelled (h .job) ≡ true) ⊎ ((c : Call) × Next text h c)
+        → ((c : Call) → (act text c h .job .state ≡ Closed → ⊥) → stepsLeft (act text c h .job) < fuel → (cs : List Call) × Ends (answer text close (run text cs (act text c h))))
+        → (cs : List Call) × Ends (answer text close (run text cs h))
+    opened o (inl e) more = ([], subst Ends (sym (then-closes r o e)) Ends.done)
+    opened o (inr (c, n)) more =
+        let rest = more c (step-live r o n) (omega (arith, lowers r o n)) in
+        (c ∷ rest .0, rest .1)
+
+-- whatever was called so far, unless the job is closed, further calls bring it to a close
+pub can-close : {text : List ℕ} {levels : ℕ} {h : Held} → Reached text levels h → (h .job .state ≡ Closed → ⊥) → (cs : List Call) × Ends (answer text close (run text cs h))
+can-close {text} {levels} {h} r l = by-fuel (suc (stepsLeft (h .job))) h r l (omega arith)
+
+-- ---- what settle finds
+
+-- a fault that settle answers is the record's
+pub settle-named : {text : List ℕ} {levels : ℕ} {h : Held} → Reached text levels h → (k : ℕ) (f : Fault) → answer text (settle k) h ≡ Faulty f → faultOf text ≡ verdictOf f
+unfolding answer act settled
+settle-named {text} {levels} {h} r k f e =
+    let found = settle-fault (h .job) text (h .words) k f .0 e in
+    stopped-named (reach-more (settle k) r) f (rw (found .0, found .1) refl)
+
+-- over a sound record an accepted settle finds nothing
+pub settle-done : {text : List ℕ} {levels : ℕ} {h : Held} → faultOf text ≡ sound → Reached text levels h → (k : ℕ) → refusal Settle (h .job) (length text) (length (h .words)) k ≡ Done → answer text (settle k) h ≡ Done
+unfolding answer settled
+settle-done {text} {levels} {h} s r k e =
+    found-case (λ x. foundBy (h .job) text (settleWords (h .job) text (h .words) k) k ≡ x → answer text (settle k) h ≡ Done) (λ q. rw (e, q) refl)
+    (λ f q. sound-faulty f (sym s ∙ settle-named r k f (rw (e, q) refl))) (foundBy (h .job) text (settleWords (h .job) text (h .words) k) k) refl
+
+-- the kept counts announce a fault in the chunk exactly when its place is found
+pub announced-exactly : {text : List ℕ} {levels : ℕ} {h : Held} → Reached text levels h → (k : ℕ) → refusal Settle (h .job) (length text) (length (h .words)) k ≡ Done
+    → let after = settleWords (h .job) text (h .words) k in
+    let c = settleChunk (h .job) text after k in
+    (announced c ≡ true) ↔ ((f : Fault) × (soughtFault c text after levels (spanOf (h .job) (length text) k) ≡ Here f))
+announced-exactly {text} {levels} {h} r k e = announced-found (g r (accepted Settle (h .job) (length text) (length (h .words)) k e .opened)) k e
