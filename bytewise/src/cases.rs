@@ -71,6 +71,24 @@ fn reports() -> Vec<Case> {
     list
 }
 
+/// Items of every shape, whole and broken.
+fn items() -> Vec<Case> {
+    let objects: [&[u8]; 22] = [
+        br#"{"a""b":1}"#, br#"{"b":1,"a""c":2,"a":3}"#, br#"{"a"x:1}"#, br#"{x"a":1}"#, br#"{a:1}"#, br#"{"a" "b":1,"b":2}"#, br#"{:1}"#,
+        br#"{"a":}"#, br#"{"a": ,"b":2}"#, br#"{"a"}"#, br#"{"a":1,}"#, br#"{"b":1,,"a":2}"#, br#"{,}"#, br#"{ }"#, br#"{}"#, br#"{"":1,"a":2}"#,
+        br#"{" a":1,"a ":2, "a" :  3 }"#, br#"{"a":1:2,"b":3}"#, br#"{"a\"":1,"a":2}"#, br#"{"\u0061":1,"a":2}"#, br#"{"a":{"a":{}},"b":{"a":[]}}"#, br#"{"a]":1,"a":2]"#,
+    ];
+    let arrays: [&[u8]; 8] = [b"[]", b"[ \t]", b"[,]", b"[1,,2]", b"[ 1 , [2,3] ,{}]", b"[\"a,b\",[\",\"]]", b"[1}", b"{1]"];
+    let mut list = Vec::new();
+    for record in objects {
+        list.push(plain(record, 2, &[], 0, &["$", "$.a", "$.b", "$.ab", "$.a.a", "$.b.a", "$[0]"]));
+    }
+    for record in arrays {
+        list.push(plain(record, 2, &[], 1, &["$", "$[0]", "$[1]", "$[2]", "$[3]", "$[1][1]", "$[0][0]", "$.a"]));
+    }
+    list
+}
+
 /// A quote behind a run of backslashes that ends at a border, and one byte before and behind it.
 fn runs(random: &mut Random) -> Vec<Case> {
     let mut list = Vec::new();
@@ -395,6 +413,7 @@ pub fn all(seed: u64, count: usize, with_beyond: bool) -> impl Iterator<Item = C
     let mut random = Random::new(seed);
     let mut listed = reports();
     listed.extend(with_beyond.then(beyond));
+    listed.extend(items());
     listed.extend(runs(&mut random));
     listed.extend(borders());
     listed.extend(faults());
