@@ -8,7 +8,7 @@ use Prim.Native.Nat.{ℕ, zero, suc, _+_, _<_}
 use native.Mathlib.Decide.{ℕ-discrete}
 use native.Mathlib.Omega.{arith}
 use lib.ListN.{length}
-use Rattle.rules.specs.Word.{digit}
+use Rattle.rules.specs.Word.{digit, pick}
 use Rattle.rules.specs.Faults.{sound, faultOf}
 use Rattle.index.specs.declared.Answer.the-variants.{Done, Faulty}
 use Rattle.index.specs.declared.Fault.{Fault}
@@ -22,7 +22,7 @@ use Rattle.index.specs.Closing.{every, allLevelled, closed}
 use Rattle.index.proofs.CheckLaws.{accepted, if-done}
 use Rattle.index.proofs.Cases.{found-case, state-case}
 use Rattle.index.proofs.CloseLaws.{stopped-fault, closing-done}
-use Rattle.runs.specs.Runs.{Call, scan, settle, level, close, Held, answer, act, run, start, Reached, Ends, verdictOf, lacks, total, stepsLeft, Next, scan-next, settle-next, level-next}
+use Rattle.runs.specs.Runs.{Call, scan, settle, level, close, Held, answer, act, run, start, Reached, Ends, verdictOf, lacks, total, stepsLeft, Next, scan-next, settle-next, level-next, nextStep, Left}
 use Rattle.runs.proofs.Spans.{Shape, count-is, chunk-new, chunk-old}
 use Rattle.runs.proofs.Good.{Good}
 use Rattle.index.proofs.NumberLaws.{settle-fault}
@@ -80,18 +80,21 @@ module _ {text : List ℕ} {levels : ℕ} {h : Held} (r : Reached text levels h)
   before-first (suc k) l q = g .ok k (omega arith) .settled-first (q k (omega arith))
 
   -- which step: the one that the first chunk that is not levelled has not had yet
-  pub some-step : (allLevelled j ≡ true) ⊎ ((c : Call) × Next text h c)
-  unfolding allLevelled
+  pub some-step : (allLevelled j ≡ true) ⊎ Left text h
+  unfolding allLevelled nextStep
   some-step = go (search-first (λ k. chunkAt j k .levelled) (j .count))
     where
-      go : Search (λ k. chunkAt j k .levelled) (j .count) → (every (λ k. chunkAt j k .levelled) (chunksOf j) ≡ true) ⊎ ((c : Call) × Next text h c)
+      go : Search (λ k. chunkAt j k .levelled) (j .count) → (every (λ k. chunkAt j k .levelled) (chunksOf j) ≡ true) ⊎ Left text h
       go (all q) = inl (every-all (λ k. chunkAt j k .levelled) (chunksOf j) (λ i l. q i (omega (arith, count-is (g .shape)))))
-      go (first-not k l e before) = inr (by-step (chunkAt j k .scanned) refl (chunkAt j k .settled) refl)
+      go (first-not k l e before) = inr (record { chunk = k; is-chunk = l; not-levelled = e; first = before; accepts = by-step (chunkAt j k .scanned) refl (chunkAt j k .settled) refl })
         where
-          by-step : (a : Bool) → chunkAt j k .scanned ≡ a → (b : Bool) → chunkAt j k .settled ≡ b → (c : Call) × Next text h c
-          by-step false p b q = (scan k false, scan-next k false (accept Scan k l p refl))
-          by-step true p false q = (settle k, settle-next k (accept Settle k l q (ap₂ _&&_ p (before-first k l before))))
-          by-step true p true q = (level k, level-next k (accept Level k l e q))
+          next : (a b : Bool) → Call
+          next a b = pick a (pick b (level k) (settle k)) (scan k false)
+
+          by-step : (a : Bool) → chunkAt j k .scanned ≡ a → (b : Bool) → chunkAt j k .settled ≡ b → Next text h (next a b)
+          by-step false p b q = scan-next k false (accept Scan k l p refl)
+          by-step true p false q = settle-next k (accept Settle k l q (ap₂ _&&_ p (before-first k l before)))
+          by-step true p true q = level-next k (accept Level k l e q)
 
   -- "until each chunk has had three; then it closes"
   pub then-closes : allLevelled j ≡ true → answer text close h ≡ Done
@@ -194,12 +197,13 @@ by-fuel {text} {levels} (suc fuel) h r l b =
     state-case (λ s. h .job .state ≡ s → (cs : List Call) × Ends (answer text close (run text cs h))) (λ o. opened o (some-step r o) (λ c. by-fuel fuel (act text c h) (reach-more c r)))
     (λ f e. ([], subst Ends (sym (stopped-closes r f e)) (Ends.fault f))) (λ e. absurd (l e)) (h .job .state) refl
   where
-    opened : h .job .state ≡ Open → (allLevelled (h .job) ≡ true) ⊎ ((c : Call) × Next text h c)
+    opened : h .job .state ≡ Open → (allLevelled (h .job) ≡ true) ⊎ Left text h
         → ((c : Call) → (act text c h .job .state ≡ Closed → ⊥) → stepsLeft (act text c h .job) < fuel → (cs : List Call) × Ends (answer text close (run text cs (act text c h))))
         → (cs : List Call) × Ends (answer text close (run text cs h))
     opened o (inl e) more = ([], subst Ends (sym (then-closes r o e)) Ends.done)
-    opened o (inr (c, n)) more =
-        let rest = more c (step-live r o n) (omega (arith, lowers r o n)) in
+    opened o (inr n) more =
+        let c = nextStep (n .chunk) (chunkAt (h .job) (n .chunk)) in
+        let rest = more c (step-live r o (n .accepts)) (omega (arith, lowers r o (n .accepts))) in
         (c ∷ rest .0, rest .1)
 
 -- whatever was called so far, unless the job is closed, further calls bring it to a close

@@ -1,14 +1,14 @@
 -- Runs of a job over one unchanged record: an opening, any calls in any order, each with the job and the words that the last one left.
 use mathlib.Core.Path.{_≡_}
-use mathlib.Core.Bool.{Bool, not}
+use mathlib.Core.Bool.{Bool, true, false, not}
 use mathlib.Core.List.{List, [], _∷_}
-use Prim.Native.Nat.{ℕ, zero, suc, _+_}
+use Prim.Native.Nat.{ℕ, zero, suc, _+_, _<_}
 use lib.ListN.{length}
 use Rattle.index.specs.declared.Answer.{Answer}
 use Rattle.index.specs.declared.Answer.the-variants.{Done, Faulty}
 use Rattle.index.specs.declared.Fault.{Fault}
 use Rattle.index.specs.declared.Job.{Job}
-use Rattle.rules.specs.Word.{digit}
+use Rattle.rules.specs.Word.{digit, pick}
 use Rattle.rules.specs.Faults.{Verdict, faulty}
 use Rattle.index.specs.Types.{Chunk, Scan, Settle, Level}
 use Rattle.index.specs.Checks.{chunkAt, refusal}
@@ -95,6 +95,18 @@ pub data Next (text : List ℕ) (h : Held) : Call → Type 0 where
   scan-next : (k : ℕ) (g : Bool) → refusal Scan (h .job) (length text) (length (h .words)) k ≡ Done → Next text h (scan k g)
   settle-next : (k : ℕ) → refusal Settle (h .job) (length text) (length (h .words)) k ≡ Done → Next text h (settle k)
   level-next : (k : ℕ) → refusal Level (h .job) (length text) (length (h .words)) k ≡ Done → Next text h (level k)
+
+-- the step that a chunk has not had yet: scan with the guess 'outside', then settle, then level
+unfoldable pub nextStep : ℕ → Chunk → Call
+nextStep k c = pick (c .scanned) (pick (c .settled) (level k) (settle k)) (scan k false)
+
+-- of the first chunk that is not levelled, the job accepts that step
+pub record Left (text : List ℕ) (h : Held) : Type 0 where
+  pub chunk : ℕ
+  pub is-chunk : chunk < h .job .count
+  pub not-levelled : chunkAt (h .job) chunk .levelled ≡ false
+  pub first : (i : ℕ) → i < chunk → chunkAt (h .job) i .levelled ≡ true
+  pub accepts : Next text h (nextStep chunk (chunkAt (h .job) chunk))
 
 -- calls none of which is refused
 pub data Accepts (text : List ℕ) : List Call → Held → Type 0 where
