@@ -1,4 +1,4 @@
--- What an answer says: document 01's number, and the value beside it.
+-- What an answer says: the scope's number, and the value beside it.
 use Prim.Native.Nat.{ℕ}
 use mathlib.Core.Bool.{Bool}
 use mathlib.Core.List.{List, [], _∷_}

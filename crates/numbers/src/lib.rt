@@ -1,4 +1,4 @@
-// Document 01's number of what a job answers, and the value beside it: what a program prints.
+// The scope's number of what a job answers, and the value beside it: what a program prints.
 use index::Answer;
 use index::Fault;
 use index::Refusal;

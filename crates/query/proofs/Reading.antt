@@ -1,5 +1,5 @@
 -- The reading of a path is exact against the grammar: a path is read as exactly its selectors, nothing else is read, and a refusal's place is literally
--- document 01's. The reading by steps is the byte machine's, step after step.
+-- the scope's. The reading by steps is the byte machine's, step after step.
 use Prim.Native.Nat.{ℕ, zero, suc, _+_, _-_, _*_, _≤_, _<_}
 use mathlib.Core.Path.{_≡_, refl, sym, ap, ap₂, _∙_, subst}
 use mathlib.Core.Bool.{Bool, true, false, not, true≢false}

@@ -1,4 +1,4 @@
--- What a query answers, on all inputs, and document 01's number and values of each case.
+-- What a query answers, on all inputs, and the scope's number and values of each case.
 use Prim.Native.Nat.{ℕ, _-_}
 use mathlib.Core.Bool.{not, _&&_}
 use mathlib.Core.List.{List}

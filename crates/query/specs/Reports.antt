@@ -1,4 +1,4 @@
--- The reports of document 01 that are marked P, 1 to 10 and 12's: one table, and a single claim over it.
+-- The reports of the scope that are marked P, 1 to 10 and 12's: one table, and a single claim over it.
 use Prim.Native.Nat.{ℕ, _^_}
 use mathlib.Core.Bool.{Bool, true, false, _&&_}
 use mathlib.Core.List.{List, [], _∷_, _++_}

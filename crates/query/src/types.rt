@@ -1,4 +1,4 @@
-// What a query tells. Document 01's numbers and places of the cases: `numberOf` and `placeOf` of specs/Answers.antt.
+// What a query tells. The scope's numbers and places of the cases: `numberOf` and `placeOf` of specs/Answers.antt.
 
 // What is wrong with a broken item, or with a record that is blank all through.
 pub enum Cause {

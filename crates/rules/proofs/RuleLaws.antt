@@ -3,7 +3,7 @@ use mathlib.Core.Path.{_≡_, refl, ap, _∙_}
 use mathlib.Core.Bool.{Bool, true, false, not, _&&_, _||_}
 use mathlib.Core.List.{List}
 use Prim.Native.Nat.{ℕ, suc, _+_, _≤_, _<_}
-use borrow.Author.Tests.{lt-ltb, le-ltb, eqb-true}
+use borrow.Author.Tests.{lt-ltb, eqb-true}
 use lib.ListN.{length, getD, List·getD-eq-default}
 use lib.Dec.{eqb}
 use Rattle.rules.specs.Word.{xor, odd, count}
@@ -36,10 +36,6 @@ inString-add text i j = ap odd (count-cat (quoteBit text) i j) ∙ odd-cat (coun
 pub mask-inside : (text : List ℕ) (i : ℕ) → i < length text → maskBit text i ≡ inString text i
 unfolding maskBit
 mask-inside text i h = ap (λ (b : Bool). b && inString text i) (lt-ltb i (length text) h)
-
-pub mask-past : (text : List ℕ) (i : ℕ) → length text ≤ i → maskBit text i ≡ false
-unfolding maskBit
-mask-past text i h = ap (λ (b : Bool). b && inString text i) (le-ltb i (length text) h)
 
 is-none : (c : Class) → is c 0 ≡ false
 unfolding is

@@ -1,7 +1,7 @@
 -- Every accepted step leads from a good job to a good job. Scan and level keep the state; settle stops the job exactly with the record's
 -- first fault.
 use mathlib.Core.Path.{_≡_, refl, sym, ap, ap₂, _∙_, subst}
-use mathlib.Core.Bool.{Bool, true, false, _&&_}
+use mathlib.Core.Bool.{Bool, true, false}
 use mathlib.Core.Logic.{_⊎_, inl, inr, _↔_}
 use mathlib.Core.List.{List}
 use Prim.Native.Nat.{ℕ, zero, suc, _*_, _-_, _≤_, _<_, min}
@@ -30,7 +30,7 @@ use Rattle.runs.proofs.Truth.{Truth, Clear}
 use Rattle.runs.proofs.Spans.{count-is, from-cut, from-zero, is-last, not-last, last-to, next-to, nonempty}
 use Rattle.runs.proofs.Border.{inside-behind, depth-behind, InChunk, nothing, here, in-chunk, AtLast, well, ill, at-last}
 use Rattle.runs.proofs.Words.{new-cells, cell-out, marks-till, levels-till}
-use Rattle.runs.proofs.Steps.{clash, unsettled, scan-ok, settle-bits, settle-truth, settle-ok, level-ok}
+use Rattle.runs.proofs.Steps.{clash, both, unsettled, scan-ok, settle-bits, settle-truth, settle-ok, level-ok}
 use Rattle.runs.proofs.Good.{Good, good-step}
 
 never : {A : Type 0} {s : State} {f : Fault} → s ≡ Open → s ≡ Stopped f → A
@@ -153,10 +153,6 @@ module _ {text : List ℕ} {levels : ℕ} {j : Job} {words : List ℕ} (g : Good
 
     l : k < j .count
     l = below Settle acc
-
-    both : (a b : Bool) → (a && b) ≡ true → (a ≡ true) × (b ≡ true)
-    both true b p = (refl, p)
-    both false b p = clash false p refl
 
     scanned-first : c .scanned ≡ true
     scanned-first = both (c .scanned) (settledBefore j k) (acc .in-time) .0

@@ -26,13 +26,10 @@ module _ (text : List ℕ) (levels : ℕ) (cuts words : List ℕ) (e : opening (
   unfolding start
   live = opened-good text levels cuts words e .live
 
-  began : Reached text levels (start text levels cuts words)
-  unfolding run
-  began = record { cuts = cuts; words = words; calls = []; accepted = e; leads = refl }
-
   pub some-run : (a : Answer) × ((after : List ℕ) × ClosedRun text levels a after)
+  unfolding run
   some-run =
-      let c = can-close began live in
+      let c = can-close (ran []) live in
       let h = run text (c .0) (start text levels cuts words) in
       (answer text close h, (act text close h .words, record { before = h; reached = ran (c .0); answers = refl; ends = c .1; leaves = refl }))
 

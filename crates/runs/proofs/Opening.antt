@@ -9,7 +9,6 @@ use borrow.Author.Tests.{eqb-true, eqb-false, leb-false, not-false}
 use lib.ListN.{length, getD, length-set, length-replicate, getD-replicate}
 use lib.Seq.{getD-set-same, getD-set-other}
 use lib.Dec.{eqb, leb}
-use Rattle.rules.specs.Word.{pick}
 use Rattle.rules.specs.Layout.{Bitmap, widthOf, cell}
 use Rattle.index.specs.declared.Answer.the-variants.{Done}
 use Rattle.index.specs.declared.Job.{Job}
@@ -18,32 +17,13 @@ use Rattle.index.specs.Checks.{fresh, chunkAt, spanOf}
 use Rattle.index.specs.Opening.{notAbove, badCut, first, firstBad, opening, blank, cutUpTo, openJob, opened}
 use Rattle.index.proofs.OpenLaws.{Openable, openable}
 use Rattle.index.proofs.SwingLaws.{or-none}
+use Rattle.index.proofs.OpenLaws.{first-before}
 use Rattle.index.proofs.StepLaws.{as-done}
 use Rattle.runs.proofs.Truth.{ChunkOk}
 use Rattle.runs.proofs.Spans.{Shape}
 use Rattle.runs.proofs.Good.{Good}
 
 -- ---- no cut is bad
-
-hit : (p : ℕ → Bool) (i m : ℕ) → p i ≡ true → first p i (suc m) ≡ i
-unfolding first
-hit p i m e = rw (e, pick)
-
-miss : (p : ℕ → Bool) (i m : ℕ) → p i ≡ false → first p i (suc m) ≡ first p (suc i) m
-unfolding first
-miss p i m e = rw (e, pick)
-
-none-found : (p : ℕ → Bool) (m i : ℕ) → i + m ≤ first p i m → (x : ℕ) → i ≤ x → x < i + m → p x ≡ false
-none-found p zero i h x a b = absurd (omega arith)
-none-found p (suc m) i h x a b = go (p i) refl (λ l k. none-found p m (suc i) l x k (omega arith))
-  where
-    go : (d : Bool) → p i ≡ d → (suc i + m ≤ first p (suc i) m → suc i ≤ x → p x ≡ false) → p x ≡ false
-    go true e rest = absurd (omega (arith, h, hit p i m e))
-    go false e rest = here (ℕ-discrete x i)
-      where
-        here : Dec (x ≡ i) → p x ≡ false
-        here (yes q) = ap p q ∙ e
-        here (no n) = rest (omega (arith, h, miss p i m e)) (omega (arith, n))
 
 record Lawful (n : ℕ) (cuts : List ℕ) (i : ℕ) : Type 0 where
   even : getD cuts i 0 % 64 ≡ 0
@@ -114,7 +94,7 @@ module _ (text : List ℕ) (levels : ℕ) (cuts words : List ℕ) (accepted : op
 
   good-cut : (i : ℕ) → i < length cuts → Lawful (length text) cuts i
   unfolding firstBad
-  good-cut i l = lawful (length text) cuts i (none-found (badCut (length text) cuts) (length cuts) 0 (omega (arith, o .all-good)) i (omega arith) (omega arith))
+  good-cut i l = lawful (length text) cuts i (first-before (badCut (length text) cuts) 0 (length cuts) i (omega arith) (omega (arith, o .all-good)))
 
   -- every chunk is fresh, at 0 or at its cut
   next-chunk : (i : ℕ) → i < length cuts → chunkAt j (suc i) ≡ fresh (getD cuts i 0)

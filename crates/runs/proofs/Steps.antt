@@ -1,6 +1,6 @@
 -- Each accepted step keeps what is true of its chunk: scan its guess, settle the truth, level the levels. The other chunks are not touched.
 use mathlib.Core.Path.{_≡_, refl, sym, ap, ap₂, _∙_, subst}
-use mathlib.Core.Bool.{Bool, true, false}
+use mathlib.Core.Bool.{Bool, true, false, _&&_}
 use mathlib.Core.List.{List}
 use Prim.Native.Nat.{ℕ, _+_, _*_, _-_, _≤_, _<_}
 use native.Mathlib.Omega.{arith}
@@ -27,6 +27,10 @@ use Rattle.runs.proofs.Words.{guess-right, mask-bit, scan-quotes, scan-
 
 pub clash : {A : Type 0} (b : Bool) → b ≡ true → b ≡ false → A
 clash b p q = let z : _≡_ {A = ℕ} 0 1 = cc in absurd (omega arith)
+
+pub both : (a b : Bool) → (a && b) ≡ true → (a ≡ true) × (b ≡ true)
+both true b p = (refl, p)
+both false b p = clash false p refl
 
 is-false : (b : Bool) → (b ≡ true → ⊥) → b ≡ false
 is-false true h = absurd (h refl)

@@ -1,7 +1,7 @@
 -- The demands, as theorems over every run: opened with any lawful cuts over any words, with any guesses, any order of calls, refused ones too.
 -- Each follows from `reached-fine`: what calls lead to is good, or closed.
 use mathlib.Core.Path.{_≡_, refl, sym, ap, ap₂, _∙_, subst}
-use mathlib.Core.Bool.{Bool, true, false, _&&_}
+use mathlib.Core.Bool.{Bool, true, false}
 use mathlib.Core.Logic.{_⊎_, inl, inr, _↔_}
 use mathlib.Core.List.{List}
 use Prim.Native.Nat.{ℕ, zero, suc, pred, _≤_, _<_}
@@ -29,6 +29,7 @@ use Rattle.index.proofs.NumberLaws.{close-fault, close-done}
 use Rattle.runs.specs.Runs.{close, Held, answer, act, Reached, Ends, ClosedRun, verdictOf}
 use Rattle.runs.proofs.Truth.{ChunkOk, Truth}
 use Rattle.runs.proofs.Spans.{Shape, count-is, in-chunk}
+use Rattle.runs.proofs.Steps.{both}
 use Rattle.runs.proofs.Good.{Good}
 use Rattle.runs.proofs.Reach.{Fine, Over, reached-fine}
 
@@ -75,10 +76,6 @@ unfolding every
 every-one p zero e k l = absurd (omega arith)
 every-one p (suc m) e k l = go (ℕ-discrete k m) (both (every p m) (p m) e) (λ h d. every-one p m d k h)
   where
-    both : (a b : Bool) → (a && b) ≡ true → (a ≡ true) × (b ≡ true)
-    both true b q = (refl, q)
-    both false b q = let z : _≡_ {A = ℕ} 0 1 = cc in absurd (omega arith)
-
     go : Dec (k ≡ m) → (every p m ≡ true) × (p m ≡ true) → (k < m → every p m ≡ true → p k ≡ true) → p k ≡ true
     go (yes q) d rest = ap p q ∙ d .1
     go (no n) d rest = rest (omega (arith, n)) (d .0)
@@ -111,12 +108,9 @@ module _ {text : List ℕ} {levels : ℕ} {a : Answer} {after : List ℕ} (c : C
   unfolding act
   words-are = refl
 
-  ends-not : Ends a → a ≡ Refused IsClosed → ⊥
-  ends-not = ends-no a
-
   not-over : h .job .state ≡ Closed → ⊥
   unfolding closed
-  not-over o = ends-not (c .ends) (sym (c .answers) ∙ answer-is ∙ closing-closed (h .job) (length text) (length (h .words)) o)
+  not-over o = ends-no a (c .ends) (sym (c .answers) ∙ answer-is ∙ closing-closed (h .job) (length text) (length (h .words)) o)
 
   pub was-good : Good text levels (h .job) (h .words)
   was-good = good (c .reached) not-over
