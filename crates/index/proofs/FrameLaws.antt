@@ -16,12 +16,15 @@ use Rattle.index.specs.declared.Step.the-variants.{Scan, Settle, Level}
 use Rattle.index.specs.declared.Job.{Job}
 use Rattle.index.specs.Answers.{onDone}
 use Rattle.index.specs.Checks.{spanOf, refusal}
-use Rattle.index.specs.Writing.{over, rewritten, marksTill, levelsTill}
-use Rattle.index.specs.Scanning.{scanWords, scannedWords}
-use Rattle.index.specs.Settling.{flipWords, guessWrong, settleWords, settledWords}
-use Rattle.index.specs.Levelling.{levelWords, levelledWords}
+use Rattle.chunks.specs.Writing.{over, rewritten, marksTill, levelsTill}
+use Rattle.chunks.specs.Sweeping.{scanWords}
+use Rattle.index.specs.Scanning.{scannedWords}
+use Rattle.chunks.specs.Flipping.{flipWords}
+use Rattle.index.specs.Settling.{guessWrong, settleWords, settledWords}
+use Rattle.chunks.specs.Levels.{levelWords}
+use Rattle.index.specs.Levelling.{levelledWords}
 use Rattle.index.specs.Frames.{writes, Frame}
-use Rattle.index.proofs.WriteLaws.{over-out}
+use Rattle.chunks.proofs.WriteLaws.{over-out}
 use Rattle.index.proofs.StepLaws.{fitting}
 
 module _ (s : Step) (j : Job) (n k : ℕ) (words : List ℕ) where

@@ -1,18 +1,7 @@
 -- Laws that this crate's functions share.
-pub mod Filling
-pub mod Lanes
-pub mod Parities
-pub mod EscapeLaw
-pub mod SwingLaws
-pub mod MarkLaws
-pub mod WriteLaws
-pub mod ScanLaws
-pub mod RowLaws
 pub mod SeekLaws
 pub mod SettleLaws
 pub mod StepLaws
-pub mod LentLaws
-pub mod LevelLaws
 pub mod AnswerLaws
 pub mod CheckLaws
 pub mod Signed

@@ -24,13 +24,14 @@ use Rattle.index.specs.declared.Kept.{Kept}
 use Rattle.index.specs.Answers.{onDone}
 use Rattle.index.specs.Checks.{chunkAt, withChunk, spanOf, refusal}
 use Rattle.index.specs.Depth.{keptOf}
-use Rattle.index.specs.Guessing.{guessed, guessBit}
-use Rattle.index.specs.Writing.{rewritten, marksTill}
-use Rattle.index.specs.Scanning.{swingBy, scanWord, scanWords, oddIn, scanKept, scanChunk, scanned, scannedWords}
+use Rattle.blocks.specs.Guessing.{guessed, guessBit}
+use Rattle.chunks.specs.Writing.{rewritten, marksTill}
+use Rattle.chunks.specs.Sweeping.{swingBy, scanWord, scanWords}
+use Rattle.index.specs.Scanning.{oddIn, scanKept, scanChunk, scanned, scannedWords}
 use Rattle.index.specs.Frames.{SameChunk}
 use Rattle.index.proofs.AnswerLaws.{handed}
-use Rattle.index.proofs.SwingLaws.{swing-ext}
-use Rattle.index.proofs.WriteLaws.{rewritten-ext}
+use Rattle.blocks.proofs.SwingLaws.{swing-ext}
+use Rattle.chunks.proofs.WriteLaws.{rewritten-ext}
 
 -- the places of the chunk: a is its first, and it has m of them
 module _ (chunk : Span) (text also : List ℕ) (same : SameChunk chunk text also) where

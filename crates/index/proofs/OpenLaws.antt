@@ -18,7 +18,7 @@ use Rattle.index.specs.declared.Answer.{Answer}
 use Rattle.index.specs.declared.Answer.the-variants.{Done, Refused}
 use Rattle.index.specs.Opening.{notAbove, badCut, first, firstBad, openChecks, opening, noJob, openJob, opened}
 use Rattle.index.proofs.Answer.{the-type}
-use Rattle.index.proofs.SwingLaws.{or-none}
+use Rattle.blocks.proofs.SwingLaws.{or-none}
 use Rattle.index.proofs.AnswerLaws.{handed, not-done}
 use Rattle.index.proofs.CheckLaws.{not-refused}
 

@@ -11,9 +11,9 @@ use Rattle.rules.specs.Word.{pick, bit}
 use Rattle.index.specs.declared.Fault.{Fault}
 use Rattle.index.specs.declared.settling.Sought.{Sought}
 use Rattle.index.specs.declared.settling.Sought.the-variants.{On, At}
-use Rattle.index.specs.Swinging.{Brackets}
+use Rattle.blocks.specs.Swinging.{Brackets}
 use Rattle.index.specs.Settling.{limitOf, faultOfBracket, depthPast, seek}
-use Rattle.index.proofs.SwingLaws.{none-from, either-bit, opens-bit}
+use Rattle.blocks.proofs.SwingLaws.{none-from, either-bit, opens-bit}
 
 module _ (o c : ℕ → Bool) where
   pub seek-none : (d i m : ℕ) → (o i || c i) ≡ false → seek o c d i (suc m) ≡ seek o c d (suc i) m

@@ -14,14 +14,14 @@ use Rattle.index.specs.declared.Job.{Job}
 use Rattle.index.specs.Answers.{onDone}
 use Rattle.index.specs.Checks.{spanOf, refusal}
 use Rattle.index.specs.Stepping.{Fitting}
-use Rattle.index.specs.Swinging.{Small}
-use Rattle.index.specs.Writing.{Lent}
-use Rattle.index.specs.Scanning.{swingBy}
+use Rattle.blocks.specs.Swinging.{Small}
+use Rattle.chunks.specs.Writing.{Lent}
+use Rattle.chunks.specs.Sweeping.{swingBy}
 use Rattle.index.proofs.Answer.{the-type}
 unfoldable pub use Rattle.index.proofs.AnswerLaws.{handed}
 use Rattle.index.proofs.AnswerLaws.{not-done}
-use Rattle.index.proofs.SwingLaws.{swing-small}
-use Rattle.index.proofs.ScanLaws.{width-few}
+use Rattle.blocks.proofs.SwingLaws.{swing-small}
+use Rattle.chunks.proofs.ScanLaws.{width-few}
 use Rattle.index.proofs.CheckLaws.{chunks-few, span-within, lengths, accepted}
 
 pub fitting : (s : Step) (j : Job) (n w k : ℕ) → refusal s j n w k ≡ Done → Fitting j n w k

@@ -3,7 +3,7 @@ use Prim.Native.Nat.{ℕ, min}
 use mathlib.Core.Bool.{Bool, true, false}
 use lib.Dec.{ltb}
 use lib.IntN.{ℤ, pos, negsuc, subℕ}
-use Rattle.index.specs.declared.swing.Swing.{Swing}
+use Rattle.blocks.specs.declared.swing.Swing.{Swing}
 use Rattle.index.specs.declared.Kept.{Kept}
 
 -- "the parity of its quotes and its change of depth, which may fall below zero", with the lowest and the highest depth met

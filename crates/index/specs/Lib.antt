@@ -1,8 +1,3 @@
-pub mod Block
-pub mod Escape
-pub mod Swinging
-pub mod Guessing
-pub mod Writing
 pub mod Scanning
 pub mod Settling
 pub mod Levelling

@@ -5,10 +5,9 @@ use mathlib.Core.List.{List}
 use lib.ListN.{length}
 use lib.IntN.{pos, _+ℤ_}
 use lib.Dec.{eqb, ltb}
-use Rattle.rules.specs.Word.{pick, xor, wordAt}
+use Rattle.rules.specs.Word.{pick, xor}
 use Rattle.rules.specs.Bytes.{opens, closes}
 use Rattle.rules.specs.Bits.{plain}
-use Rattle.rules.specs.Layout.{Bitmap, quotes, mask, colons, commas, widthOf, bitIn}
 use Rattle.index.specs.declared.Fault.{Fault}
 use Rattle.index.specs.declared.Fault.the-variants.{Closer, Opener, InString, InBracket}
 use Rattle.index.specs.declared.settling.Sought.{Sought}
@@ -24,34 +23,10 @@ use Rattle.index.specs.declared.Chunk.{Chunk}
 use Rattle.index.specs.declared.Job.{Job}
 use Rattle.index.specs.declared.Handed.{Handed}
 use Rattle.index.specs.declared.checks.Span.{Span}
-use Rattle.index.specs.declared.swing.Swing.{Swing}
 use Rattle.index.specs.Answers.{onDone}
 use Rattle.index.specs.Checks.{chunkAt, withChunk, withState, spanOf, isLast, refusal}
 use Rattle.index.specs.Depth.{keptOf, belowZero, above64, clampDepth}
-use Rattle.index.specs.Writing.{rewritten, marksTill}
-use Rattle.index.specs.Scanning.{swingBy}
-
--- the mask, as lent words of so many levels have it for a record of n bytes
-abbrev pub maskIn : List ℕ → ℕ → ℕ → ℕ → Bool
-maskIn words levels n = bitIn words levels (widthOf n) mask
-
--- the mask turned over, at the places of the record only
-unfoldable pub turned : List ℕ → ℕ → ℕ → ℕ → Bool
-turned words levels n i = xor (maskIn words levels n i) (ltb i n)
-
-unfoldable pub flipWord : List ℕ → ℕ → ℕ → Bitmap → ℕ → ℕ
-flipWord words levels n quotes w = 0
-flipWord words levels n mask w = wordAt (turned words levels n) w
-flipWord words levels n (colons k) w = 0
-flipWord words levels n (commas k) w = 0
-
--- the mask words from `from` up to `to` turned over
-unfoldable pub flipWords : ℕ → ℕ → ℕ → ℕ → List ℕ → List ℕ
-flipWords n levels from to words = rewritten levels (widthOf n) (marksTill 0 to) from (flipWord words levels n) words
-
--- how the brackets of those words move the depth, by the mask as lent
-unfoldable pub swingIn : List ℕ → List ℕ → ℕ → ℕ → ℕ → Swing
-swingIn text words levels from to = swingBy (maskIn words levels (length text)) text (64 * from) (64 * (to - from))
+use Rattle.chunks.specs.Flipping.{maskIn, flipWords, swingIn}
 
 -- the depth at which a bracket is a fault, the fault, and the depth past a bracket that is none
 abbrev pub limitOf : Bool → ℕ

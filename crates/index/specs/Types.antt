@@ -17,7 +17,7 @@ abbrev pub Span : Type 0
 Span = Rattle.index.specs.declared.checks.Span.Span
 
 abbrev pub Swing : Type 0
-Swing = Rattle.index.specs.declared.swing.Swing.Swing
+Swing = Rattle.blocks.specs.declared.swing.Swing.Swing
 
 abbrev pub Sought : Type 0
 Sought = Rattle.index.specs.declared.settling.Sought.Sought

@@ -10,8 +10,8 @@ use crate::Job;
 use crate::Refusal;
 use crate::State;
 use crate::Step;
-use crate::address::size_of;
-use crate::address::width_of;
+use layout::size_of;
+use layout::width_of;
 
 // Words of a bitmap, from `from` up to `to`.
 pub struct Span {

@@ -1,10 +1,10 @@
 // Signed depths: what a chunk keeps of its brackets, added to the depth at its border.
 ghost use mathlib.Core.Path.{_≡_};
 ghost use lib.IntN.{pos, _+ℤ_};
-ghost use Rattle.index.specs.Swinging.{Small};
+ghost use Rattle.blocks.specs.Swinging.{Small};
 ghost use Rattle.index.specs.Depth.{keptOf, belowZero, above64, clampDepth};
 use crate::Kept;
-use crate::swing::Swing;
+use blocks::swing::Swing;
 
 pub(crate) fn kept_of(odd: bool, s: Swing) -> Kept
     requires { ⌜ Small 16777216 s ⌝ }

@@ -1,15 +1,11 @@
 // A structural index over a record in lent memory, made chunk by chunk. The face of the crate is `Job`, its operations, and what they answer.
-mod address;
-mod block;
 mod checks;
 mod closing;
 mod depth;
 mod levelling;
-mod marks;
 mod opening;
 mod scanning;
 mod settling;
-mod swing;
 
 // What is wrong with a record, with its place: 13, 14, 15 and 16.
 pub enum Fault {

@@ -11,7 +11,7 @@ use crate::Job;
 use crate::Kept;
 use crate::Refusal;
 use crate::State;
-use crate::address::size_of;
+use layout::size_of;
 
 fn fresh_chunk(cut: usize) -> Chunk
     ensures { λ r. ⌜ r ≡ fresh cut ⌝ }

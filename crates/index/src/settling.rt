@@ -3,9 +3,9 @@ ghost use mathlib.Core.Path.{_≡_};
 ghost use mathlib.Core.Bool.{Bool, true, false};
 ghost use Prim.Native.Nat.{ℕ, _+_, _*_, _≤_, _<_};
 ghost use lib.ListN.{length};
-ghost use Rattle.index.specs.Swinging.{Brackets};
-ghost use Rattle.index.specs.Writing.{Lent};
-ghost use Rattle.index.specs.Settling.{flipWords, swingIn, limitOf, faultOfBracket, depthPast, seek, seekIn, announced, soughtFault, endFault, chunkFault, insideOf, startOf, settleWords, settleKept, settleChunk, settled, settledWords};
+ghost use Rattle.blocks.specs.Swinging.{Brackets};
+ghost use Rattle.chunks.specs.Writing.{Lent};
+ghost use Rattle.index.specs.Settling.{limitOf, faultOfBracket, depthPast, seek, seekIn, announced, soughtFault, endFault, chunkFault, insideOf, startOf, settleWords, settleKept, settleChunk, settled, settledWords};
 ghost use Rattle.index.specs.Stepping.{Fitting};
 use crate::Answer;
 use crate::Chunk;
@@ -15,20 +15,18 @@ use crate::Job;
 use crate::Kept;
 use crate::State;
 use crate::Step;
-use crate::address::get_word;
-use crate::address::put_word;
-use crate::address::width_of;
-use crate::block::block;
-use crate::block::table;
 use crate::checks::Span;
 use crate::depth::climbs;
 use crate::depth::depth_after;
 use crate::depth::falls;
 use crate::depth::kept_of;
-use crate::marks::live;
 use crate::scanning::differs;
-use crate::swing::Swing;
-use crate::swing::brackets;
+use blocks::block::block;
+use blocks::block::table;
+use chunks::flipping::flip_words;
+use layout::Map;
+use layout::get_word;
+use layout::width_of;
 
 // The depth behind a walk, or the fault it met.
 pub enum Sought {
@@ -40,33 +38,6 @@ pub enum Sought {
 pub enum Found {
     Nothing,
     Here(Fault),
-}
-
-// After a wrong guess: each mask word turned over, and the brackets counted anew.
-pub fn flip_words(text: &[u8], words: &mut [u64], levels: usize, from: usize, to: usize) -> Swing
-    requires { ⌜ Lent (now text) (now words) levels to ⌝ }
-    ensures { λ r. ⌜ r ≡ swingIn (now (text .entry)) (now (words .exit)) levels from to ⌝ }
-    ensures { λ _. ⌜ now (words .exit) ≡ flipWords (length (now (text .entry))) levels from to (now (words .entry)) ⌝ }
-{
-    let t = table(false);
-    let n = text.len();
-    let width = width_of(n);
-    let mut swing = Swing {
-        up: 0,
-        down: 0,
-        dip: 0,
-        peak: 0,
-    };
-    let mut w = from;
-    while w < to {
-        let at = 64 * w;
-        let b = block(&t, text, at);
-        let mask = get_word(words, levels, width, 1, w) ^ live(n - at);
-        put_word(words, levels, width, 1, w, mask);
-        swing = brackets(swing, b.c & !mask, b.d & !mask);
-        w += 1;
-    }
-    swing
 }
 
 // The depth at which a bracket is a fault.
@@ -134,7 +105,7 @@ pub fn seek_words(
     while w < to {
         let at = 64 * w;
         let b = block(&t, text, at);
-        let mask = get_word(words, levels, width, 1, w);
+        let mask = get_word(words, levels, width, Map::Mask, w);
         let sought = seek_word(b.c & !mask, b.d & !mask, depth, at);
         let Sought::On(d) = sought else {
             return sought;

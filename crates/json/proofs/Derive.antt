@@ -9,9 +9,9 @@ use native.Mathlib.Omega.{arith}
 use borrow.Author.Tests.{lt-ltb}
 use lib.Dec.{ltb}
 use lib.ListN.{length}
-use Rattle.json.specs.Grammar.{Opt, Blank, Ws, Digits, Digits1, Minus, Int, Frac, E, Sign, Exp, Number, Hexdig, UTF8-char, Unescaped, Char, Chars, stringBytes}
-use Rattle.json.specs.Select.{deep, deepItems, deepFields, Fields, noFields}
-use Rattle.json.proofs.Padded.{Bare, Pad, Elems, Entry, Entries, bareBytes, padBytes, elemsBytes, entryBytes, entriesBytes, bareTree, padded, padItems, withEntry, padFields}
+use Rattle.texts.specs.Grammar.{Opt, Blank, Ws, Digits, Digits1, Minus, Int, Frac, E, Sign, Exp, Number, Hexdig, UTF8-char, Unescaped, Char, Chars, stringBytes}
+use Rattle.texts.specs.Nodes.{deep, deepItems, deepFields, Fields, noFields}
+use Rattle.texts.proofs.Padded.{Bare, Pad, Elems, Entry, Entries, bareBytes, padBytes, elemsBytes, entryBytes, entriesBytes, bareTree, padded, padItems, withEntry, padFields}
 use Rattle.json.proofs.Machine.{down, sep, sortOf, Apart, sort-plain, State, out, str, check, go, go-append, inside-other}
 
 -- ---- bytes that leave the machine alone

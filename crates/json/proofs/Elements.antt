@@ -11,12 +11,13 @@ use lib.ListN.{length, getD, length-append}
 use Rattle.rules.specs.Word.{count}
 use Rattle.rules.specs.Bytes.{Class, is, comma}
 use Rattle.rules.specs.Bits.{opener, closer, atDepth, levelBit}
-use Rattle.query.specs.Places.{byteIn, firstAt}
+use Rattle.paths.specs.Places.{byteIn, firstAt}
 use Rattle.query.specs.Items.{valueAt, itemNo}
 use Rattle.query.specs.declared.items.Item.the-variants.{Other}
-use Rattle.query.proofs.PlaceLaws.{first-at, first-all}
-use Rattle.json.specs.Select.{nth, deep, deepItems}
-use Rattle.json.proofs.Padded.{Pad, Elems, padBytes, elemsBytes, padded, padItems}
+use Rattle.paths.proofs.PlaceLaws.{first-at, first-all}
+use Rattle.texts.specs.Nodes.{deep, deepItems}
+use Rattle.json.specs.Select.{nth}
+use Rattle.texts.proofs.Padded.{Pad, Elems, padBytes, elemsBytes, padded, padItems}
 use Rattle.json.proofs.Machine.{sep, sortOf, out}
 use Rattle.json.proofs.Derive.{pad-run}
 use Rattle.json.proofs.Trace.{At, commas, Stepped, at-step, level-here, Seg, Traced, trace}

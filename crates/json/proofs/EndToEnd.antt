@@ -6,7 +6,7 @@ use Rattle.index.specs.declared.Answer.{Answer}
 use Rattle.index.specs.declared.Answer.the-variants.{Done}
 use Rattle.runs.specs.Runs.{Ends, ClosedRun}
 use Rattle.runs.proofs.Theorems.{was-good, sound-faulty, bits, fault-named}
-use Rattle.query.specs.Grammar.{Selector}
+use Rattle.paths.specs.Grammar.{Selector}
 use Rattle.query.specs.Answers.{answerOf}
 use Rattle.json.specs.Select.{select}
 use Rattle.json.specs.Demand2.{root, Within, Asked, Selects}

@@ -1,15 +1,4 @@
--- Theorems about the texts of RFC 8259.
-pub mod Padded
-pub mod Tests
-pub mod Recogniser
-pub mod SoundNumbers
-pub mod SoundStrings
-pub mod SoundValues
-pub mod CompleteNumbers
-pub mod CompleteStrings
-pub mod CompleteValues
-pub mod Trials
-pub mod Characters
+-- Theorems: what RFC 9535 selects is what the walk finds.
 pub mod Machine
 pub mod Derive
 pub mod Trace

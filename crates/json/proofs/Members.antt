@@ -12,15 +12,15 @@ use lib.ListN.{length, length-append}
 use Rattle.rules.specs.Word.{pick}
 use Rattle.rules.specs.Bytes.{is, colon, comma}
 use Rattle.rules.specs.Bits.{quoteBit, levelBit}
-use Rattle.query.specs.Places.{byteIn, between, firstAt}
+use Rattle.paths.specs.Places.{byteIn, between, firstAt}
 use Rattle.rules.specs.Layout.{bitOf}
 use Rattle.query.specs.Items.{ruled, valueAt, same, quoted, keyed, itemAt, orElse, itemsIn}
 use Rattle.query.specs.declared.items.Item.{Item}
 use Rattle.query.specs.declared.items.Item.the-variants.{Other}
-use Rattle.query.proofs.PlaceLaws.{first-at, first-all}
-use Rattle.json.specs.Grammar.{Ws, Chars, stringBytes}
-use Rattle.json.specs.Select.{Json, Fields, noFields, deep, deepFields}
-use Rattle.json.proofs.Padded.{Pad, Entry, Entries, padBytes, entryBytes, entriesBytes, padded, withEntry, padFields}
+use Rattle.paths.proofs.PlaceLaws.{first-at, first-all}
+use Rattle.texts.specs.Grammar.{Ws, Chars, stringBytes}
+use Rattle.texts.specs.Nodes.{Json, Fields, noFields, deep, deepFields}
+use Rattle.texts.proofs.Padded.{Pad, Entry, Entries, padBytes, entryBytes, entriesBytes, padded, withEntry, padFields}
 use Rattle.json.proofs.Machine.{out, str}
 use Rattle.json.proofs.Derive.{name-run, chars-run, plains-run, ws-plains}
 use Rattle.json.proofs.Trace.{At, colons, commas, Stepped, at-step, quote-here, level-here, Seg, Never, never-more, never-append, trace}

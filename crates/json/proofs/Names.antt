@@ -9,11 +9,12 @@ use native.Mathlib.Omega.{arith}
 use borrow.Author.Tests.{eqb-true, ne-eqb, leb-true}
 use lib.Dec.{eqb, leb}
 use lib.ListN.{length}
-use Rattle.query.specs.Grammar.{Selector, name, number}
+use Rattle.paths.specs.Grammar.{Selector, name, number}
 use Rattle.query.specs.Items.{same}
-use Rattle.json.specs.Grammar.{UTF8-char, Char, Chars}
-use Rattle.json.specs.Select.{isHigh, characters, Json, scalar, array, object, Items, noItems, item, Fields, noFields, field, keepIf, named, nth, children, Unescaped, Fresh, Fair, FairItems, FairFields}
-use Rattle.json.proofs.Padded.{Bare, Entry, Entries, entryBytes, bareTree, padFields}
+use Rattle.texts.specs.Grammar.{UTF8-char, Char, Chars}
+use Rattle.texts.specs.Nodes.{isHigh, characters, Json, scalar, array, object, Items, noItems, item, Fields, noFields, field}
+use Rattle.json.specs.Select.{keepIf, named, nth, children, Unescaped, Fresh, Fair, FairItems, FairFields}
+use Rattle.texts.proofs.Padded.{Bare, Entry, Entries, entryBytes, bareTree, padFields}
 
 same-true : (xs ys : List ℕ) → same xs ys ≡ true → xs ≡ ys
 unfolding same

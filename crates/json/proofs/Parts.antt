@@ -8,11 +8,11 @@ use native.Mathlib.Omega.{arith}
 use borrow.Author.Tests.{ne-eqb, lt-ltb}
 use lib.ListN.{length, getD, length-append}
 use Rattle.rules.specs.Layout.{listed}
-use Rattle.query.specs.Places.{byteIn, pastLast}
+use Rattle.paths.specs.Places.{byteIn, pastLast}
 use Rattle.query.specs.Items.{isBlank, solid, trimStart, trimEnd, valueAt}
 use Rattle.query.specs.declared.items.Item.the-variants.{Found}
-use Rattle.query.proofs.PlaceLaws.{first-at, first-all, last-here, last-next}
-use Rattle.json.specs.Grammar.{Blank, Ws}
+use Rattle.paths.proofs.PlaceLaws.{first-at, first-all, last-here, last-next}
+use Rattle.texts.specs.Grammar.{Blank, Ws}
 use Rattle.json.proofs.Trace.{Seg, Never, never-more}
 use Rattle.json.proofs.Stretches.{seg-left, seg-right}
 

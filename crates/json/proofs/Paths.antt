@@ -12,23 +12,24 @@ use lib.Dec.{eqb, ltb, leb}
 use lib.ListN.{length, take, drop, length-append, length-take, length-drop}
 use lib.Seq.{ext-getD, getD-take, getD-drop}
 use Rattle.rules.specs.Layout.{sizeOf, Promise}
-use Rattle.query.specs.Grammar.{Selector, Letter, Rest, Name, Steps, Path}
-use Rattle.query.specs.Places.{byteIn}
+use Rattle.paths.specs.Grammar.{Selector, Letter, Rest, Name, Steps, Path}
+use Rattle.paths.specs.Places.{byteIn}
 use Rattle.query.specs.Items.{ruled, valueAt}
-use Rattle.query.specs.Path.{Reading, good, bad, readPath, large}
+use Rattle.paths.specs.Path.{Reading, good, bad, readPath, large}
 use Rattle.query.specs.Walk.{onFound, walkFrom, walk}
 use Rattle.query.specs.Answers.{numberOf, partOf, afterReading, answerOf}
 use Rattle.query.specs.declared.items.Item.the-variants as Items
 use Rattle.query.specs.declared.types.Answer.{Answer}
 use Rattle.query.specs.declared.types.Answer.the-variants.{Found, Refused}
 use Rattle.query.specs.declared.types.Refusal.the-variants.{EmptyRecord, LongRecord, BadLevels, BadBuffer, TooLarge, TooDeep}
-use Rattle.query.proofs.PlaceLaws.{pick-ind}
-use Rattle.query.proofs.Reading.{reads}
+use Rattle.paths.proofs.PlaceLaws.{pick-ind}
+use Rattle.paths.proofs.Reading.{reads}
 use Rattle.query.proofs.Inside.{Within, WithinItem, value-in, step-in}
-use Rattle.json.specs.Grammar.{Text}
-use Rattle.json.specs.Select.{Json, valueOf, firstOf, bytesOf, children, flat, segments, select, deep, Fair}
+use Rattle.texts.specs.Grammar.{Text}
+use Rattle.texts.specs.Nodes.{Json, valueOf, firstOf, bytesOf, deep}
+use Rattle.json.specs.Select.{children, flat, segments, select, Fair}
 use Rattle.json.specs.Demand2.{Obeys, root, Asked, Selects, Claim}
-use Rattle.json.proofs.Padded.{Bare, Pad, bareBytes, padBytes, bareTree, padded, paddedText, text-same-bytes, text-same-tree}
+use Rattle.texts.proofs.Padded.{Bare, Pad, bareBytes, padBytes, bareTree, padded, paddedText, text-same-bytes, text-same-tree}
 use Rattle.json.proofs.Trace.{at-start, Seg}
 use Rattle.json.proofs.Stretches.{seg-at, seg-self}
 use Rattle.json.proofs.Values.{value-ends, Good, Hit, pad-hit}

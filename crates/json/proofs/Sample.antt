@@ -3,19 +3,20 @@ use mathlib.Core.Path.{_≡_, refl}
 use mathlib.Core.List.{List, [], _∷_}
 use Prim.Native.Nat.{ℕ, _+_}
 use native.Mathlib.Omega.{arith}
-use Rattle.json.specs.Grammar.{In, Opt, Digits, Hexdig, Blank, Ws, Structural, Int, Number, UTF8-char, Unescaped, Short, Char, Chars, Value, Object, Members, Member, Array, Values, JSON-text, textBytes, valueBytes}
-use Rattle.json.specs.Select.{characters, Json, tree, valueOf, firstOf, bytesOf, named, nth, children, flat, segments, select, deep}
+use Rattle.texts.specs.Grammar.{In, Opt, Digits, Hexdig, Blank, Ws, Structural, Int, Number, UTF8-char, Unescaped, Short, Char, Chars, Value, Object, Members, Member, Array, Values, JSON-text, textBytes, valueBytes}
+use Rattle.texts.specs.Nodes.{characters, Json, tree, valueOf, firstOf, bytesOf, deep}
+use Rattle.json.specs.Select.{named, nth, children, flat, segments, select}
 use lib.ListN.{length}
 use Rattle.rules.specs.Layout.{index}
 use Rattle.rules.proofs.LayoutLaws.{index-holds}
-use Rattle.query.specs.Grammar.{Selector, name, number, Letter, Rest, Name, More, Numeral, Steps, Path}
-use Rattle.query.specs.Path.{large}
+use Rattle.paths.specs.Grammar.{Selector, name, number, Letter, Rest, Name, More, Numeral, Steps, Path}
+use Rattle.paths.specs.Path.{large}
 use Rattle.query.specs.Items.{same}
 use Rattle.query.specs.Answers.{answerOf}
 use Rattle.query.specs.declared.types.Answer.{Answer}
 use Rattle.query.specs.declared.types.Answer.the-variants.{Found}
 use Rattle.json.proofs.Paths.{claim}
-use Rattle.json.specs.Texts.{bytes}
+use Rattle.texts.specs.Texts.{bytes}
 use Rattle.json.specs.Demand2.{Obeys, root, Asked, Selects}
 
 unfoldable pub sample : List ℕ

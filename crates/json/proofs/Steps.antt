@@ -11,8 +11,8 @@ use borrow.Author.Tests.{ne-eqb, eq-eqb, lt-ltb, le-ltb}
 use lib.Dec.{ltb}
 use lib.ListN.{length, getD, length-append}
 use Rattle.rules.specs.Layout.{bitOf}
-use Rattle.query.specs.Grammar.{In, Selector, name, number}
-use Rattle.query.specs.Places.{byteIn}
+use Rattle.paths.specs.Grammar.{In, Selector, name, number}
+use Rattle.paths.specs.Places.{byteIn}
 use Rattle.query.specs.Items.{ruled, solid, trimStart, itemAt, items, itemNo}
 use Rattle.query.specs.Walk.{ofItem, framed, filled, nameStep, numberStep, stepBy}
 use Rattle.query.specs.Answers.{refusalNumber}
@@ -21,11 +21,12 @@ use Rattle.query.specs.declared.types.Answer.{Answer}
 use Rattle.query.specs.declared.types.Answer.the-variants.{Found, Refused}
 use Rattle.query.specs.declared.types.Refusal.{Refusal}
 use Rattle.query.specs.declared.types.Refusal.the-variants.{NotObject, NotArray, NoName, NoNumber}
-use Rattle.query.proofs.PlaceLaws.{first-at}
-use Rattle.json.specs.Grammar.{Ws, Number, stringBytes}
-use Rattle.json.specs.Select.{Json, scalar, nth, deep}
-use Rattle.json.proofs.Tests.{and-false}
-use Rattle.json.proofs.Padded.{number-starts, Bare, Pad, Elems, Entry, Entries, bareBytes, padBytes, elemsBytes, entryBytes, entriesBytes, bareTree}
+use Rattle.paths.proofs.PlaceLaws.{first-at}
+use Rattle.texts.specs.Grammar.{Ws, Number, stringBytes}
+use Rattle.texts.specs.Nodes.{Json, scalar, deep}
+use Rattle.json.specs.Select.{nth}
+use Rattle.texts.proofs.Tests.{and-false}
+use Rattle.texts.proofs.Padded.{number-starts, Bare, Pad, Elems, Entry, Entries, bareBytes, padBytes, elemsBytes, entryBytes, entriesBytes, bareTree}
 use Rattle.json.proofs.Machine.{up, sortOf, out}
 use Rattle.json.proofs.Trace.{At, Stepped, at-step, Seg}
 use Rattle.json.proofs.Stretches.{seg-left, seg-right}

@@ -16,7 +16,7 @@ use Rattle.rules.specs.Bytes.{Class, quote, backslash, opens, closes, colon, co
 use Rattle.rules.specs.Bits.{runBefore, escaped, quoteBit, inString, maskBit, plain, opener, closer, atDepth, levelBit}
 use Rattle.rules.specs.Faults.{closesNone, opensOver}
 use Rattle.rules.proofs.RuleLaws.{escaped-suc, inString-suc, mask-inside, has-past}
-use Rattle.json.proofs.Tests.{and-false}
+use Rattle.texts.proofs.Tests.{and-false}
 use Rattle.json.proofs.Machine as M
 use Rattle.json.proofs.Machine.{sortOf, Apart, sort-plain, State, out, str, esc, step, ok, less, go, passed, inside-other}
 

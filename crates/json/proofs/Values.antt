@@ -7,13 +7,13 @@ use native.Mathlib.Nat.{add-suc, suc-add, not-suc-le-zero, le-of-suc-le-suc, le-
 use native.Mathlib.Numerals.{add-one}
 use native.Mathlib.Omega.{arith}
 use lib.ListN.{length, getD, length-append}
-use Rattle.query.specs.Places.{byteIn}
+use Rattle.paths.specs.Places.{byteIn}
 use Rattle.query.specs.Items.{valueAt}
 use Rattle.query.specs.declared.items.Item.{Item}
 use Rattle.query.specs.declared.items.Item.the-variants.{Found, Other}
-use Rattle.json.specs.Grammar.{Number}
-use Rattle.json.specs.Select.{Json, deep}
-use Rattle.json.proofs.Padded.{number-starts, Bare, Pad, bareBytes, padBytes, elemsBytes, entriesBytes, bareTree, padded}
+use Rattle.texts.specs.Grammar.{Number}
+use Rattle.texts.specs.Nodes.{Json, deep}
+use Rattle.texts.proofs.Padded.{number-starts, Bare, Pad, bareBytes, padBytes, elemsBytes, entriesBytes, bareTree, padded}
 use Rattle.json.proofs.Machine.{out}
 use Rattle.json.proofs.Derive.{Solids, number-solids, plains-run, ws-plains}
 use Rattle.json.proofs.Trace.{At, Seg, trace}

@@ -11,9 +11,9 @@ use lib.ListN.{length}
 use Rattle.rules.specs.Word.{count}
 use Rattle.rules.specs.Bits.{opener, closer, atDepth}
 use Rattle.rules.specs.Faults.{sound, closesNone, opensOver, atEnd, faultFrom, faultOf}
-use Rattle.json.specs.Grammar.{Text}
-use Rattle.json.specs.Select.{deep, valueOf}
-use Rattle.json.proofs.Padded.{Pad, padBytes, padded, paddedText, text-same-bytes, text-same-tree}
+use Rattle.texts.specs.Grammar.{Text}
+use Rattle.texts.specs.Nodes.{deep, valueOf}
+use Rattle.texts.proofs.Padded.{Pad, padBytes, padded, paddedText, text-same-bytes, text-same-tree}
 use Rattle.json.proofs.Machine.{out, go}
 use Rattle.json.proofs.Derive.{pad-run}
 use Rattle.json.proofs.Trace.{At, at-start, Never, trace}

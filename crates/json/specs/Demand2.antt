@@ -7,14 +7,15 @@ use mathlib.Core.List.{List, [], _∷_}
 use lib.ListN.{length}
 use Rattle.rules.specs.Faults.{sound, faultOf}
 use Rattle.rules.specs.Layout.{Promise}
-use Rattle.query.specs.Grammar.{Selector, Path}
-use Rattle.query.specs.Path.{large}
+use Rattle.paths.specs.Grammar.{Selector, Path}
+use Rattle.paths.specs.Path.{large}
 use Rattle.query.specs.Answers.{refusalNumber, numberOf, partOf, answerOf}
 use Rattle.query.specs.declared.types.Answer.{Answer}
 use Rattle.query.specs.declared.types.Answer.the-variants.{Found, Refused}
 use Rattle.query.specs.declared.types.Refusal.{Refusal}
-use Rattle.json.specs.Grammar.{In, Text}
-use Rattle.json.specs.Select.{Json, valueOf, firstOf, bytesOf, select, deep, Fair}
+use Rattle.texts.specs.Grammar.{In, Text}
+use Rattle.texts.specs.Nodes.{Json, valueOf, firstOf, bytesOf, deep}
+use Rattle.json.specs.Select.{select, Fair}
 
 -- a text that obeys RFC 8259, brackets at most 64 deep, each object's names unescaped and unrepeated
 pub record Obeys (text : List ℕ) : Type 0 where

@@ -5,7 +5,7 @@ use mathlib.Core.List.{List}
 use Rattle.index.specs.declared.Answer.{Answer}
 use Rattle.index.specs.declared.Answer.the-variants.{Done}
 use Rattle.runs.specs.Runs.{ClosedRun}
-use Rattle.query.specs.Grammar.{Selector}
+use Rattle.paths.specs.Grammar.{Selector}
 use Rattle.query.specs.Answers.{answerOf}
 use Rattle.json.specs.Select.{select}
 use Rattle.json.specs.Demand2.{Obeys, root, Within, Selects}

@@ -11,9 +11,9 @@ use borrow.Author.Tests.{ltb-true}
 use Rattle.rules.specs.Word.{pick}
 use Rattle.rules.specs.Layout.{quotes, colons, commas, widthOf, sizeOf, Promise}
 use Rattle.rules.proofs.LayoutLaws.{promised-bit}
-use Rattle.query.specs.Places.{byteIn, firstIn, firstAt}
-use Rattle.query.specs.Grammar.{Selector, name, number, Path}
-use Rattle.query.specs.Path.{Reading, good, bad, readPath, large}
+use Rattle.paths.specs.Places.{byteIn, firstIn, firstAt}
+use Rattle.paths.specs.Grammar.{Selector, name, number, Path}
+use Rattle.paths.specs.Path.{Reading, good, bad, readPath, large}
 use Rattle.query.specs.Items.{Bits, lent, ruled, solid, trimStart, trimEnd, valueAt, same, quoted, keyed, itemAt, orElse, itemsIn, items, itemNo}
 use Rattle.query.specs.Walk.{onFound, ofItem, framed, filled, nameStep, numberStep, stepBy, walkFrom, walk}
 use Rattle.query.specs.Answers.{afterReading, answerOf}
@@ -23,10 +23,10 @@ use Rattle.query.specs.declared.types.Cause.the-variants.{EmptyValue}
 use Rattle.query.specs.declared.types.Refusal.the-variants.{EmptyRecord, LongRecord, BadLevels, BadBuffer, TooLarge, TooDeep, NotObject, NotArray, NoName, NoNumber, Broken}
 use Rattle.query.specs.declared.types.Answer.{Answer}
 use Rattle.query.specs.declared.types.Answer.the-variants.{Found, Refused}
-use Rattle.query.proofs.PlaceLaws.{first-ge, first-le, last-bounds}
+use Rattle.paths.proofs.PlaceLaws.{first-ge, first-le, last-bounds}
 use Rattle.query.proofs.ItemLaws.{framed-long}
 use Rattle.query.proofs.Inside.{Within, value-in, of-in, step-in}
-use Rattle.query.proofs.Reading.{read-is-path}
+use Rattle.paths.proofs.Reading.{read-is-path}
 
 -- the same bits at places below n, and at levels up to l
 pub record Agree (n l : ℕ) (b c : Bits) : Type 0 where

@@ -9,21 +9,21 @@ use types.Run.{OneOf, miss}
 use denote.Enum.Declared.{tagOf}
 use Rattle.rules.specs.Word.{pick}
 use Rattle.rules.specs.Layout.{widthOf}
-use Rattle.query.specs.Grammar.{Selector}
-use Rattle.query.specs.Path.{Reading, good, bad, readPath, large}
-use Rattle.query.specs.Helpers.{checked, pathCheck}
+use Rattle.paths.specs.Grammar.{Selector}
+use Rattle.paths.specs.Path.{Reading, good, bad, readPath, large}
+use Rattle.paths.specs.Helpers.{checked, pathCheck}
 use Rattle.query.specs.Items.{lent, trimStart, trimEnd, valueAt}
 use Rattle.query.specs.Walk.{ofItem, walk}
 use Rattle.query.specs.Answers.{afterReading}
-use Rattle.query.specs.declared.path.Checked.{Checked}
-use Rattle.query.specs.declared.path.Checked.the-variants as Checks
+use Rattle.paths.specs.declared.Checked.{Checked}
+use Rattle.paths.specs.declared.Checked.the-variants as Checks
 use Rattle.query.specs.declared.items.Item.{Item}
 use Rattle.query.specs.declared.types.Cause.the-variants.{EmptyValue}
 use Rattle.query.specs.declared.types.Refusal.the-variants.{BadPath, TooLarge, TooDeep, Broken}
 use Rattle.query.specs.declared.types.Answer.{Answer}
 use Rattle.query.specs.declared.types.Answer.the-variants.{Refused}
-use Rattle.query.proofs.PlaceLaws.{pick-ind}
-use Rattle.query.proofs.Checking.{fits-fine}
+use Rattle.paths.proofs.PlaceLaws.{pick-ind}
+use Rattle.paths.proofs.Checking.{fits-fine}
 use Rattle.query.proofs.items.Item.{the-type}
 
 -- a value that is not found is empty
@@ -61,5 +61,6 @@ module _ (text words : List ℕ) (levels : ℕ) (path : List ℕ) where
       go false (good ss) = deep (large ss) (ltb levels (length ss)) (walkRead (good ss))
 
   -- what the walk of every reading answers is the answer of a path that is fine
-  pub by-walk : {r : Answer} → pathCheck path levels ≡ Checks.Fine → ((ss : List Selector) → readPath path ≡ good ss → r ≡ walk text (lent words levels (widthOf (length text))) ss) → r ≡ walkRead (readPath path)
-  by-walk h w = let f = fits-fine path levels h in w (f .selectors) (f .reads) ∙ ap walkRead (sym (f .reads))
+  pub by-walk : {r : Answer} {width : ℕ} → width ≡ widthOf (length text) → pathCheck path levels ≡ Checks.Fine → ((ss : List Selector) → readPath path ≡ good ss → r ≡ walk text (lent words levels width) ss) → r ≡ walkRead (readPath path)
+  by-walk e h w = let f = fits-fine path levels h in
+      w (f .selectors) (f .reads) ∙ ap (λ (x : ℕ). walk text (lent words levels x) (f .selectors)) e ∙ ap walkRead (sym (f .reads))

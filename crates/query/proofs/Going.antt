@@ -8,20 +8,20 @@ use lib.Dec.{eqb, ltb}
 use lib.ListN.{length, getD}
 use borrow.Author.Tests.{ltb-false}
 use Rattle.rules.specs.Word.{pick}
-use Rattle.query.specs.Places.{byteIn, between}
-use Rattle.query.specs.Grammar.{Selector, name, number}
-use Rattle.query.specs.Path.{stepAt, Reading, good, bad, before, readFrom, readPath, large}
-use Rattle.query.specs.Helpers.{told, pathCheck}
+use Rattle.paths.specs.Places.{byteIn, between}
+use Rattle.paths.specs.Grammar.{Selector, name, number}
+use Rattle.paths.specs.Path.{stepAt, Reading, good, bad, before, readFrom, readPath, large}
+use Rattle.paths.specs.Helpers.{told, pathCheck}
 use Rattle.query.specs.Items.{lent}
 use Rattle.query.specs.Walk.{nameStep, numberStep, stepBy, walkFrom}
 use Rattle.query.specs.declared.bits.Shape.{Shape}
-use Rattle.query.specs.declared.path.Step.{Step}
-use Rattle.query.specs.declared.path.Step.the-variants as Kind
-use Rattle.query.specs.declared.path.Checked.the-variants.{Fine}
+use Rattle.paths.specs.declared.Step.{Step}
+use Rattle.paths.specs.declared.Step.the-variants as Kind
+use Rattle.paths.specs.declared.Checked.the-variants.{Fine}
 use Rattle.query.specs.declared.types.Refusal.{Refusal}
 use Rattle.query.specs.declared.types.Answer.the-variants.{Found, Refused}
-use Rattle.query.proofs.PathLaws.{name-told, number-told}
-use Rattle.query.proofs.Checking.{read-name, read-number, fits-fine}
+use Rattle.paths.proofs.PathLaws.{name-told, number-told}
+use Rattle.paths.proofs.Checking.{read-name, read-number, fits-fine}
 use Rattle.query.proofs.Inside.{Within, step-in}
 
 pub record Going (text words : List ℕ) (s : Shape) (path : List ℕ) (from to a e at k : ℕ) : Type 0 where

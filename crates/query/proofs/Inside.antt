@@ -8,9 +8,9 @@ use lib.ListN.{length}
 use borrow.Author.Tests.{ltb-true}
 use Rattle.rules.specs.Word.{pick}
 use Rattle.rules.specs.Layout.{sizeOf, widthOf}
-use Rattle.query.specs.Places.{byteIn, between, firstAt}
-use Rattle.query.specs.Grammar.{Selector, name, number}
-use Rattle.query.specs.Path.{Reading, good, bad, readPath, large}
+use Rattle.paths.specs.Places.{byteIn, between, firstAt}
+use Rattle.paths.specs.Grammar.{Selector, name, number}
+use Rattle.paths.specs.Path.{Reading, good, bad, readPath, large}
 use Rattle.query.specs.Items.{Bits, lent, solid, trimStart, trimEnd, valueAt, same, quoted, keyed, itemAt, orElse, itemsIn, items, itemNo}
 use Rattle.query.specs.Walk.{onFound, ofItem, framed, filled, nameStep, numberStep, stepBy, walkFrom, walk}
 use Rattle.query.specs.Answers.{afterReading, answerOf}
@@ -21,7 +21,7 @@ use Rattle.query.specs.declared.types.Answer.{Answer}
 use Rattle.query.specs.declared.types.Answer.the-variants.{Found, Refused}
 use Rattle.query.specs.declared.items.Item.{Item}
 use Rattle.query.specs.declared.items.Item.the-variants as Items
-use Rattle.query.proofs.PlaceLaws.{pick-ind, first-ge, first-le, last-bounds}
+use Rattle.paths.proofs.PlaceLaws.{pick-ind, first-ge, first-le, last-bounds}
 use Rattle.query.proofs.ItemLaws.{framed-long}
 
 -- an item, and an answer, in the first n bytes

@@ -8,12 +8,12 @@ use lib.Dec.{ltb}
 use borrow.Author.Tests.{ltb-true, ltb-false}
 use Rattle.rules.specs.Word.{pick, digit, count}
 use Rattle.rules.proofs.Counting.{count-cat}
-use Rattle.query.specs.Places.{firstAt}
+use Rattle.paths.specs.Places.{firstAt}
 use Rattle.query.specs.Items.{trimStart, trimEnd, valueAt, itemNo}
 use Rattle.query.specs.Conditions.{Exactly}
 use Rattle.query.specs.declared.items.Item.the-variants.{Found, Other, Broken}
 use Rattle.query.specs.declared.types.Cause.the-variants.{EmptyValue}
-use Rattle.query.proofs.PlaceLaws.{first-ge, first-le, first-hit, first-miss}
+use Rattle.paths.proofs.PlaceLaws.{first-ge, first-le, first-hit, first-miss}
 use Rattle.query.proofs.Standing.{count-none}
 
 -- places without t count nothing

@@ -6,12 +6,12 @@ use native.Mathlib.Omega.{arith}
 use lib.Dec.{ltb}
 use borrow.Author.Tests.{ltb-true, lt-ltb, le-ltb}
 use Rattle.rules.specs.Word.{pick}
-use Rattle.query.specs.Places.{firstAt, nthAt}
+use Rattle.paths.specs.Places.{firstAt, nthAt}
 use Rattle.query.specs.Items.{solid, quoted, itemNo}
 use Rattle.query.specs.Walk.{framed, filled}
 use Rattle.query.specs.declared.items.Item.the-variants.{Other}
-use Rattle.query.proofs.PlaceLaws.{first-ge}
-use Rattle.query.proofs.PathLaws.{both-true}
+use Rattle.paths.proofs.PlaceLaws.{first-ge}
+use Rattle.paths.proofs.PathLaws.{both-true}
 
 -- a quoted part has two bytes
 pub quoted-long : (quote : ℕ → Bool) (p q : ℕ) → quoted quote p q ≡ true → p + 1 < q

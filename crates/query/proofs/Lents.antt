@@ -1,24 +1,17 @@
 -- What can be read of lent words: a word's address lies among them, and every bitmap of a level can be read up to the record's end.
-use Prim.Native.Nat.{ℕ, _+_, _*_, _≤_, _<_}
+use Prim.Native.Nat.{ℕ, _+_, _*_, _≤_}
 use mathlib.Core.List.{List}
 use native.Mathlib.Omega.{arith}
-use native.Mathlib.Nat.{mul-le-mul-right}
 use lib.ListN.{length}
-use Rattle.rules.specs.Layout.{widthOf, sizeOf, address, Has}
-use Rattle.rules.proofs.LayoutLaws.{address-lt}
-use Rattle.query.specs.Helpers.{mapped, Readable, Lent}
-use Rattle.query.specs.declared.bits.Map.{Map}
+use Rattle.rules.specs.Layout.{Has}
+use Rattle.layout.specs.declared.Map.{Map}
+use Rattle.layout.specs.Maps.{mapped, InMap}
+use Rattle.query.specs.Helpers.{Readable, Lent}
 use Rattle.query.specs.declared.bits.Shape.{Shape}
 
--- a word of a bitmap lies among the lent words, which are few
-pub address-in : (s : Shape) (m : Map) (w : ℕ) → Readable s m (64 * w + 64)
-    → (address (s .levels) (s .width) (mapped m) w < (2 + 2 * s .levels) * s .width) × ((2 + 2 * s .levels) * s .width ≤ 8912896)
-unfolding widthOf sizeOf
-address-in s m w r =
-    let l : 2 + 2 * s .levels ≤ 34 = omega (arith, r .levels) in (
-      address-lt (s .levels) (s .width) (mapped m) w (r .has) (omega (arith, r .inside)),
-      omega (arith, mul-le-mul-right (s .width) l, r .width),
-    )
+-- the word of such a place is one of the bitmap's
+pub in-map : {s : Shape} {m : Map} {w : ℕ} → Readable s m (64 * w + 64) → InMap (s .levels) (s .width) m w
+in-map r = record { few = r .levels; narrow = r .width; has = r .has; inside = omega (arith, r .inside) }
 
 pub readable-to : {s : Shape} {m : Map} {e f : ℕ} → Readable s m e → f ≤ 64 * s .width → Readable s m f
 readable-to r l = record { levels = r .levels; width = r .width; has = r .has; inside = l }

@@ -7,20 +7,12 @@ use native.Mathlib.Omega.{arith}
 use lib.Dec.{eqb}
 use lib.ListN.{length}
 use borrow.Author.Tests.{eqb-true, eq-eqb, ne-eqb}
-use Rattle.rules.specs.Layout.{listed}
 use Rattle.rules.proofs.LayoutLaws.{length-listed}
-use Rattle.query.specs.Places.{between}
+use Rattle.paths.specs.Places.{between}
 use Rattle.query.specs.Items.{same}
 use Rattle.query.specs.Conditions.{Exactly}
-use Rattle.query.proofs.PathLaws.{both-true}
-
-pub between-none : (byte : ℕ → ℕ) (a e : ℕ) → e ≤ a → between byte a e ≡ []
-unfolding listed
-between-none byte a e h = let z : e - a ≡ 0 = omega arith in rw z
-
-pub between-some : (byte : ℕ → ℕ) (a e : ℕ) → a < e → between byte a e ≡ byte a ∷ between byte (suc a) e
-unfolding listed
-between-some byte a e h = let z : e - a ≡ suc (e - suc a) = omega arith in rw z
+use Rattle.paths.proofs.PlaceLaws.{between-none, between-some}
+use Rattle.paths.proofs.PathLaws.{both-true}
 
 -- names are the same exactly where their bytes are
 same-bytes : (xs ys : List ℕ) → same xs ys ≡ true → xs ≡ ys

@@ -11,8 +11,8 @@ use lib.ListN.{length}
 use borrow.Author.Tests.{not-true, not-false, ltb-true, ltb-false, leb-true, leb-false, eqb-true, eqb-false, lt-ltb, le-ltb, le-leb, lt-leb, eq-eqb, ne-eqb}
 use Rattle.rules.specs.Word.{pick}
 use Rattle.rules.specs.Layout.{widthOf, sizeOf}
-use Rattle.query.specs.Grammar.{Selector, Path, RefusedAt}
-use Rattle.query.specs.Path.{Reading, good, bad, readPath, large}
+use Rattle.paths.specs.Grammar.{Selector, Path, RefusedAt}
+use Rattle.paths.specs.Path.{Reading, good, bad, readPath, large}
 use Rattle.query.specs.Items.{lent}
 use Rattle.query.specs.Walk.{walk}
 use Rattle.query.specs.Answers.{refusalNumber, numberOf, placeOf, afterReading, answerOf}
@@ -22,8 +22,8 @@ use Rattle.query.specs.declared.types.Refusal.{Refusal}
 use Rattle.query.specs.declared.types.Refusal.the-variants.{EmptyRecord, LongRecord, BadLevels, BadBuffer, BadPath, TooLarge, TooDeep, NotObject, NotArray, NoName, NoNumber, Broken}
 use Rattle.query.specs.declared.types.Answer.{Answer}
 use Rattle.query.specs.declared.types.Answer.the-variants.{Found, Refused}
-use Rattle.query.proofs.PlaceLaws.{pick-ind}
-use Rattle.query.proofs.Reading.{reads, read-is-path, refused-is-place, place-is-refused}
+use Rattle.paths.proofs.PlaceLaws.{pick-ind}
+use Rattle.paths.proofs.Reading.{reads, read-is-path, refused-is-place, place-is-refused}
 use Rattle.query.proofs.Stops.{walk-stops, walk-number}
 
 module _ (text words : List ℕ) (levels : ℕ) (path : List ℕ) where

@@ -6,11 +6,10 @@ use mathlib.Core.Bool.{Bool, true, false, true≢false}
 use mathlib.Core.List.{List}
 use native.Mathlib.Omega.{arith}
 use native.Mathlib.Nat.{zero-div, div-le-self, lt-of-le-of-lt, lt-of-not-le}
-use lib.ListN.{getD}
 use lib.Pow.{shr-le}
 use lib.Count.{ones, trailingZeros}
 use Rattle.rules.specs.Word.{digit, count, bit}
-use Rattle.rules.specs.Layout.{Bitmap, address, bitIn, cell}
+use Rattle.rules.specs.Layout.{Bitmap, cell, bitIn}
 use Rattle.rules.proofs.BitWalk.{bit-shifted, bit-above, lowest}
 use Rattle.rules.proofs.WordLaws.{word-bits, ones-word}
 use Rattle.rules.proofs.Counting.{count-ext, count-cat}
@@ -37,9 +36,9 @@ pub record Standing (t : ℕ → Bool) (w at x : ℕ) : Type 0 where
   pub fits : x < 2 ^ 64
 
 -- the bits of a lent word are the bitmap's
-lent-word : (words : List ℕ) (levels width : ℕ) (b : Bitmap) (w r j : ℕ) → r ≡ getD words (address levels width b w) 0 → j < 64
+lent-word : (words : List ℕ) (levels width : ℕ) (b : Bitmap) (w r j : ℕ) → r ≡ cell words levels width b w → j < 64
     → bit r j ≡ bitIn words levels width b (w * 64 + j)
-unfolding bitIn cell
+unfolding bitIn
 lent-word words levels width b w r j e l =
     let q : (w * 64 + j) / 64 ≡ w = omega arith in
     let m : (w * 64 + j) % 64 ≡ j = omega arith in
@@ -47,7 +46,7 @@ lent-word words levels width b w r j e l =
 
 module _ (words : List ℕ) (levels width : ℕ) (b : Bitmap) where
   -- read from place a on
-  pub standing-from : (a r : ℕ) → r ≡ getD words (address levels width b (a / 64)) 0 → r < 2 ^ 64
+  pub standing-from : (a r : ℕ) → r ≡ cell words levels width b (a / 64) → r < 2 ^ 64
       → Standing (bitIn words levels width b) (a / 64) a (r / 2 ^ (a % 64))
   standing-from a r e l =
       record {
@@ -59,7 +58,7 @@ module _ (words : List ℕ) (levels width : ℕ) (b : Bitmap) where
       }
 
   -- and whole
-  pub standing-whole : (w r : ℕ) → r ≡ getD words (address levels width b w) 0 → r < 2 ^ 64 → Standing (bitIn words levels width b) w (w * 64) r
+  pub standing-whole : (w r : ℕ) → r ≡ cell words levels width b w → r < 2 ^ 64 → Standing (bitIn words levels width b) w (w * 64) r
   standing-whole w r e l =
       record {
         low = omega arith;

@@ -8,8 +8,8 @@ use native.Mathlib.Omega.{arith}
 use lib.Dec.{ltb}
 use lib.ListN.{length}
 use Rattle.rules.specs.Word.{pick}
-use Rattle.query.specs.Places.{byteIn}
-use Rattle.query.specs.Grammar.{Selector, name, number}
+use Rattle.paths.specs.Places.{byteIn}
+use Rattle.paths.specs.Grammar.{Selector, name, number}
 use Rattle.query.specs.Items.{Bits, trimStart, trimEnd, valueAt, itemAt, items, itemNo}
 use Rattle.query.specs.Walk.{onFound, ofItem, framed, filled, nameStep, numberStep, stepBy, walkFrom, walk}
 use Rattle.query.specs.Answers.{refusalNumber}

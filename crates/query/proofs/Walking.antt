@@ -7,11 +7,11 @@ use native.Mathlib.Omega.{arith}
 use native.Mathlib.Decide.{decLt}
 use lib.Count.{trailingZeros}
 use borrow.Author.Tests.{lt-ltb, le-ltb}
-use Rattle.query.specs.Places.{firstAt}
+use Rattle.paths.specs.Places.{firstAt}
 use Rattle.query.specs.Items.{orElse, itemsIn, items}
 use Rattle.query.specs.declared.items.Item.{Item}
 use Rattle.query.specs.declared.items.Item.the-variants.{Found, Other, Broken}
-use Rattle.query.proofs.PlaceLaws.{first-at, first-all}
+use Rattle.paths.proofs.PlaceLaws.{first-at, first-all}
 use Rattle.query.proofs.Standing.{Standing, standing-zero, standing-low, standing-shift}
 
 -- ---- the laws of `itemsIn`: another item goes on, one that is found or broken stops, and the last

@@ -7,7 +7,7 @@ use lib.Dec.{ltb, leb, eqb}
 use Rattle.rules.specs.Word.{pick}
 use Rattle.rules.specs.Layout.{widthOf, sizeOf}
 use Rattle.query.specs.Items.{lent}
-use Rattle.query.specs.Path.{Reading, good, bad, readPath, large}
+use Rattle.paths.specs.Path.{Reading, good, bad, readPath, large}
 use Rattle.query.specs.Walk.{onFound, walk}
 use Rattle.query.specs.declared.types.Refusal.{Refusal}
 use Rattle.query.specs.declared.types.Refusal.the-variants.{EmptyRecord, LongRecord, BadLevels, BadBuffer, BadPath, TooLarge, TooDeep, NotObject, NotArray, NoName, NoNumber, Broken}

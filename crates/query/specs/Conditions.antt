@@ -6,9 +6,9 @@ use mathlib.Core.List.{List, _∷_}
 use mathlib.Core.Logic.{_⊎_}
 use lib.ListN.{length}
 use Rattle.rules.specs.Layout.{widthOf, sizeOf}
-use Rattle.query.specs.Places.{byteIn}
-use Rattle.query.specs.Grammar.{Selector, name, number, Path, RefusedAt}
-use Rattle.query.specs.Path.{large}
+use Rattle.paths.specs.Places.{byteIn}
+use Rattle.paths.specs.Grammar.{Selector, name, number, Path, RefusedAt}
+use Rattle.paths.specs.Path.{large}
 use Rattle.query.specs.Items.{Bits, lent, valueAt, itemAt, items, itemNo}
 use Rattle.query.specs.Walk.{framed, filled, stepBy, walk}
 use Rattle.query.specs.declared.items.Item.the-variants as Items

@@ -5,7 +5,7 @@ use mathlib.Core.List.{List, [], _∷_}
 use lib.Dec.{ltb, eqb}
 use Rattle.rules.specs.Word.{pick}
 use Rattle.rules.specs.Layout.{quotes, colons, commas, bitIn, bitOf}
-use Rattle.query.specs.Places.{between, firstAt, pastLast}
+use Rattle.paths.specs.Places.{between, firstAt, pastLast}
 use Rattle.query.specs.declared.types.Cause.the-variants.{NoColon, BadName, EmptyValue}
 use Rattle.query.specs.declared.items.Item.{Item}
 use Rattle.query.specs.declared.items.Item.the-variants.{Found, Other, Broken}

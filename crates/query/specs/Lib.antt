@@ -1,9 +1,5 @@
-pub mod Places
 pub mod Items
-pub mod Grammar
-pub mod Path
 pub mod Helpers
 pub mod Walk
 pub mod Answers
-pub mod Reports
 pub mod Conditions

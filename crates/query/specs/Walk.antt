@@ -5,8 +5,8 @@ use mathlib.Core.List.{List, [], _∷_}
 use lib.ListN.{length}
 use lib.Dec.{ltb, eqb}
 use Rattle.rules.specs.Word.{pick}
-use Rattle.query.specs.Places.{byteIn}
-use Rattle.query.specs.Grammar.{Selector, name, number}
+use Rattle.paths.specs.Places.{byteIn}
+use Rattle.paths.specs.Grammar.{Selector, name, number}
 use Rattle.query.specs.Items.{Bits, trimStart, valueAt, itemAt, items, itemNo}
 use Rattle.query.specs.declared.types.Cause.the-variants.{EmptyValue}
 use Rattle.query.specs.declared.types.Refusal.{Refusal}

@@ -1,10 +1,12 @@
-// The bits of the lent words, a word at a time. `address_of` alone knows where a word lies.
+// The bits of the lent words, a word at a time.
+use layout::Map;
+use layout::get_word;
 ghost use mathlib.Core.Path.{_≡_};
 ghost use Prim.Native.Nat.{_+_, _*_, _<_, _≤_};
-ghost use lib.ListN.{getD};
-ghost use Rattle.rules.specs.Layout.{address, bitIn};
-ghost use Rattle.query.specs.Places.{firstAt, nthAt};
-ghost use Rattle.query.specs.Helpers.{mapped, Readable, Long};
+ghost use Rattle.rules.specs.Layout.{cell, bitIn};
+ghost use Rattle.layout.specs.Maps.{mapped};
+ghost use Rattle.paths.specs.Places.{firstAt, nthAt};
+ghost use Rattle.query.specs.Helpers.{Readable, Long};
 
 // How many levels the lent words have, and how many words each bitmap.
 pub struct Shape {
@@ -12,31 +14,12 @@ pub struct Shape {
     pub width: usize,
 }
 
-// A bitmap that a walk reads; colons and commas have their level.
-pub enum Map {
-    Quotes,
-    Colons(usize),
-    Commas(usize),
-}
-
-fn address_of(s: Shape, m: Map, w: usize) -> usize
-    requires { ⌜ Readable s m (64 * w + 64) ⌝ }
-    ensures { λ r. ⌜ r ≡ address (s .levels) (s .width) (mapped m) w ⌝ }
-{
-    match m {
-        Map::Quotes => w,
-        Map::Colons(k) => 2 * k * s.width + w,
-        Map::Commas(k) => (2 * k + 1) * s.width + w,
-    }
-}
-
 pub fn word(words: &[u64], s: Shape, m: Map, w: usize) -> u64
     requires { ⌜ Long (now words) s ⌝ }
     requires { ⌜ Readable s m (64 * w + 64) ⌝ }
-    ensures { λ r. ⌜ r ≡ getD (now (words .entry)) (address (s .levels) (s .width) (mapped m) w) 0 ⌝ }
+    ensures { λ r. ⌜ r ≡ cell (now (words .entry)) (s .levels) (s .width) (mapped m) w ⌝ }
 {
-    let at = address_of(s, m, w);
-    words[at]
+    get_word(words, s.levels, s.width, m, w)
 }
 
 // The bit of place p.

@@ -2,7 +2,7 @@
 ghost use mathlib.Core.Path.{_≡_};
 ghost use Prim.Native.Nat.{_≤_};
 ghost use lib.ListN.{length};
-ghost use Rattle.query.specs.Places.{byteIn, firstAt, pastLast};
+ghost use Rattle.paths.specs.Places.{byteIn, firstAt, pastLast};
 ghost use Rattle.query.specs.Items.{isBlank, solid};
 
 fn is_blank(b: u8) -> bool

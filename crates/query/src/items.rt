@@ -1,15 +1,15 @@
 // Items, cut at the commas of a level: by name, and by number.
 use crate::bits;
-use crate::bits::Map;
 use crate::bits::Shape;
 use crate::blanks;
 use crate::types::Cause;
+use layout::Map;
 ghost use mathlib.Core.Path.{_≡_};
 ghost use Prim.Native.Nat.{_+_, _≤_, _<_};
 ghost use lib.ListN.{length};
 ghost use Rattle.rules.specs.Layout.{bitIn, quotes, commas};
 ghost use Rattle.query.specs.Helpers.{Lent, Readable, Long};
-ghost use Rattle.query.specs.Places.{byteIn, between};
+ghost use Rattle.paths.specs.Places.{byteIn, between};
 ghost use Rattle.query.specs.Items.{lent, valueAt, same, quoted, keyed, itemAt, items, itemNo};
 
 // What an item is to a step.

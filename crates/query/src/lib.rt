@@ -1,4 +1,6 @@
 // Paths in, a part of the lent record out: by the bits of the lent words, whatever they are.
+use layout::size_of;
+use layout::width_of;
 use types::Answer;
 use types::Refusal;
 ghost use mathlib.Core.Path.{_≡_};
@@ -8,7 +10,6 @@ ghost use Rattle.query.specs.Answers.{answerOf, numberOf, placeOf, start
 mod bits;
 mod blanks;
 mod items;
-mod path;
 pub mod types;
 mod walk;
 
@@ -28,16 +29,16 @@ pub fn answer(text: &[u8], words: &[u64], levels: usize, path: &[u8]) -> Answer
     if 16 < levels {
         return Answer::Refused(Refusal::BadLevels);
     }
-    let width = (text.len() + 63) / 64;
-    if words.len() != (2 + 2 * levels) * width {
+    if words.len() != size_of(levels, text.len()) {
         return Answer::Refused(Refusal::BadBuffer);
     }
-    let checked = path::check_path(path, levels);
+    let width = width_of(text.len());
+    let checked = paths::check_path(path, levels);
     match checked {
-        path::Checked::Bad { place } => Answer::Refused(Refusal::BadPath { place }),
-        path::Checked::TooLarge => Answer::Refused(Refusal::TooLarge),
-        path::Checked::TooDeep => Answer::Refused(Refusal::TooDeep),
-        path::Checked::Fine => walk::walk_record(text, words, bits::Shape { levels, width }, path),
+        paths::Checked::Bad { place } => Answer::Refused(Refusal::BadPath { place }),
+        paths::Checked::TooLarge => Answer::Refused(Refusal::TooLarge),
+        paths::Checked::TooDeep => Answer::Refused(Refusal::TooDeep),
+        paths::Checked::Fine => walk::walk_record(text, words, bits::Shape { levels, width }, path),
     }
 }
 

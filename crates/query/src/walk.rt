@@ -3,20 +3,20 @@ use crate::bits::Shape;
 use crate::blanks;
 use crate::items;
 use crate::items::Item;
-use crate::path;
-use crate::path::Step;
 use crate::types::Answer;
 use crate::types::Cause;
 use crate::types::Refusal;
+use paths::Step;
 ghost use mathlib.Core.Path.{_≡_};
 ghost use mathlib.Core.List.{List};
 ghost use Prim.Native.Nat.{_+_, _<_, _≤_};
 ghost use lib.ListN.{length};
-ghost use Rattle.query.specs.Helpers.{Lent, pathCheck};
-ghost use Rattle.query.specs.declared.path.Checked.the-variants.{Fine};
-ghost use Rattle.query.specs.Grammar.{Selector};
-ghost use Rattle.query.specs.Path.{readPath, good};
-ghost use Rattle.query.specs.Places.{byteIn, between};
+ghost use Rattle.paths.specs.Helpers.{pathCheck};
+ghost use Rattle.query.specs.Helpers.{Lent};
+ghost use Rattle.paths.specs.declared.Checked.the-variants.{Fine};
+ghost use Rattle.paths.specs.Grammar.{Selector};
+ghost use Rattle.paths.specs.Path.{readPath, good};
+ghost use Rattle.paths.specs.Places.{byteIn, between};
 ghost use Rattle.query.specs.Items.{lent};
 ghost use Rattle.query.specs.Walk.{framed, filled, nameStep, numberStep, walkFrom, walk};
 
@@ -114,7 +114,7 @@ fn walk_path(text: &[u8], words: &[u64], s: Shape, path: &[u8], from: usize, to:
     let mut at: usize = 1;
     let mut k: usize = 1;
     loop {
-        let step = path::read_step(path, at);
+        let step = paths::read_step(path, at);
         let Step::Name {
             start: b,
             end: f,

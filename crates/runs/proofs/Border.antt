@@ -26,11 +26,13 @@ use Rattle.index.specs.Types.{Span}
 use Rattle.index.specs.Types.{Sought}
 use Rattle.index.specs.Types.{On, At}
 use Rattle.index.specs.Types.{Nothing, Here}
-use Rattle.index.specs.Swinging.{dip, peak, swing}
+use Rattle.blocks.specs.Swinging.{dip, peak, swing}
 use Rattle.index.specs.Depth.{keptOf, belowZero, above64, clampDepth}
-use Rattle.index.specs.Scanning.{swingBy, oddIn}
-use Rattle.index.specs.Settling.{limitOf, faultOfBracket, depthPast, maskIn, seek, seekIn, announced, ofSought, soughtFault, endFault}
-use Rattle.index.proofs.SwingLaws.{dip-ge, peak-ge}
+use Rattle.chunks.specs.Sweeping.{swingBy}
+use Rattle.index.specs.Scanning.{oddIn}
+use Rattle.chunks.specs.Flipping.{maskIn}
+use Rattle.index.specs.Settling.{limitOf, faultOfBracket, depthPast, seek, seekIn, announced, ofSought, soughtFault, endFault}
+use Rattle.blocks.proofs.SwingLaws.{dip-ge, peak-ge}
 use Rattle.index.proofs.DepthLaws.{falls-is, climbs-is, depth-is}
 use Rattle.index.proofs.SeekLaws.{seek-on, seek-at, seek-over}
 use Rattle.index.proofs.SettleLaws.{end-string, end-bracket, end-none, not-announced, is-announced}

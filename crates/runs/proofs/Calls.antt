@@ -18,10 +18,13 @@ use Rattle.index.specs.declared.Fault.{Fault}
 use Rattle.index.specs.declared.Job.{Job}
 use Rattle.index.specs.Types.{Chunk, State, Open, Stopped, Closed, Step, Scan, Settle, Level, Span, Found, Nothing, Here}
 use Rattle.index.specs.Checks.{chunkAt, withChunk, withState, firstWord, isLast, spanOf, settledBefore, refusal}
-use Rattle.index.specs.Writing.{marksTill, levelsTill, rewritten}
-use Rattle.index.specs.Scanning.{scanWord, scanWords, scanChunk}
-use Rattle.index.specs.Settling.{flipWord, flipWords, insideOf, startOf, guessWrong, settleWords, settleChunk, announced, soughtFault, endFault, chunkFault, foundJob, foundBy}
-use Rattle.index.specs.Levelling.{levelWord, levelWords, levelChunk}
+use Rattle.chunks.specs.Writing.{marksTill, levelsTill, rewritten}
+use Rattle.chunks.specs.Sweeping.{scanWord, scanWords}
+use Rattle.index.specs.Scanning.{scanChunk}
+use Rattle.chunks.specs.Flipping.{flipWord, flipWords}
+use Rattle.index.specs.Settling.{insideOf, startOf, guessWrong, settleWords, settleChunk, announced, soughtFault, endFault, chunkFault, foundJob, foundBy}
+use Rattle.chunks.specs.Levels.{levelWord, levelWords}
+use Rattle.index.specs.Levelling.{levelChunk}
 use Rattle.index.proofs.CheckLaws.{Accepted, accepted, span-within}
 use Rattle.index.proofs.SettleLaws.{fault-sought}
 use Rattle.runs.specs.Runs.{verdictOf}

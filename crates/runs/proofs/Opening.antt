@@ -16,7 +16,7 @@ use Rattle.index.specs.Types.{Chunk, Span}
 use Rattle.index.specs.Checks.{fresh, chunkAt, spanOf}
 use Rattle.index.specs.Opening.{notAbove, badCut, first, firstBad, opening, blank, cutUpTo, openJob, opened}
 use Rattle.index.proofs.OpenLaws.{Openable, openable}
-use Rattle.index.proofs.SwingLaws.{or-none}
+use Rattle.blocks.proofs.SwingLaws.{or-none}
 use Rattle.index.proofs.OpenLaws.{first-before}
 use Rattle.index.proofs.StepLaws.{as-done}
 use Rattle.runs.proofs.Truth.{ChunkOk}

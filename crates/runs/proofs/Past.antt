@@ -9,7 +9,7 @@ use Rattle.rules.specs.Word.{odd, count}
 use Rattle.rules.specs.Bytes.{Class, quote, opens, closes}
 use Rattle.rules.specs.Bits.{escaped, quoteBit, inString, maskBit, plain, opener, closer}
 use Rattle.rules.proofs.RuleLaws.{has-past}
-use Rattle.index.proofs.LevelLaws.{count-over}
+use Rattle.blocks.proofs.SpreadLaws.{count-over}
 
 module _ (text : List ℕ) where
   pub plain-past : (by : ℕ → Bool) (c : Class) (i : ℕ) → length text ≤ i → plain by c text i ≡ false

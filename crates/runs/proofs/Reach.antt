@@ -11,9 +11,11 @@ use Rattle.index.specs.declared.Answer.the-variants.{Done, Refused, Faulty}
 use Rattle.index.specs.Types.{Closed, Scan, Settle, Level}
 use Rattle.index.specs.Answers.{onDone}
 use Rattle.index.specs.Checks.{chunkAt, withChunk, withState, spanOf, refusal}
-use Rattle.index.specs.Scanning.{scanChunk, scanWords, scanned, scannedWords}
+use Rattle.chunks.specs.Sweeping.{scanWords}
+use Rattle.index.specs.Scanning.{scanChunk, scanned, scannedWords}
 use Rattle.index.specs.Settling.{settleWords, settleChunk, foundJob, foundBy, settled, settledWords}
-use Rattle.index.specs.Levelling.{levelChunk, levelWords, levelled, levelledWords}
+use Rattle.chunks.specs.Levels.{levelWords}
+use Rattle.index.specs.Levelling.{levelChunk, levelled, levelledWords}
 use Rattle.index.specs.Closing.{unlessRefused, onFault, closing, closed, closedWords}
 use Rattle.index.proofs.CheckLaws.{if-closed}
 use Rattle.index.proofs.CloseLaws.{closing-closed}

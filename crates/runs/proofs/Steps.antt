@@ -13,14 +13,17 @@ use Rattle.index.specs.Types.{Kept}
 use Rattle.index.specs.Types.{Chunk}
 use Rattle.index.specs.declared.Job.{Job}
 use Rattle.index.specs.Types.{Span}
-use Rattle.index.specs.Guessing.{guessBit}
+use Rattle.blocks.specs.Guessing.{guessBit}
 use Rattle.index.specs.Depth.{keptOf}
 use Rattle.index.specs.Checks.{chunkAt, spanOf}
-use Rattle.index.specs.Writing.{levelsTill}
-use Rattle.index.specs.Scanning.{swingBy, oddIn, scanKept, scanChunk, scanWords}
-use Rattle.index.specs.Settling.{maskIn, insideOf, startOf, guessWrong, settleWords, settleKept, settleChunk, flipWords, swingIn}
-use Rattle.index.specs.Levelling.{levelChunk, levelWords}
-use Rattle.index.proofs.ScanLaws.{swingBy-ext}
+use Rattle.chunks.specs.Writing.{levelsTill}
+use Rattle.chunks.specs.Sweeping.{swingBy, scanWords}
+use Rattle.index.specs.Scanning.{oddIn, scanKept, scanChunk}
+use Rattle.chunks.specs.Flipping.{maskIn, flipWords, swingIn}
+use Rattle.index.specs.Settling.{insideOf, startOf, guessWrong, settleWords, settleKept, settleChunk}
+use Rattle.chunks.specs.Levels.{levelWords}
+use Rattle.index.specs.Levelling.{levelChunk}
+use Rattle.chunks.proofs.ScanLaws.{swingBy-ext}
 use Rattle.runs.proofs.Walks.{Depth}
 use Rattle.runs.proofs.Truth.{Truth, Holds, ChunkOk}
 use Rattle.runs.proofs.Words.{guess-right, mask-bit, scan-quotes, scan-mask, flip-mask, flip-quotes, level-colons, level-commas, level-marks}

@@ -11,9 +11,10 @@ use Rattle.rules.specs.Faults.{faultFrom, faultOf}
 use Rattle.rules.specs.Layout.{Bitmap, quotes, mask, colons, commas, Has}
 use Rattle.index.specs.Types.{Chunk}
 use Rattle.index.specs.Types.{Span}
-use Rattle.index.specs.Guessing.{guessBit}
+use Rattle.blocks.specs.Guessing.{guessBit}
 use Rattle.index.specs.Depth.{keptOf}
-use Rattle.index.specs.Scanning.{swingBy, oddIn, scanKept}
+use Rattle.chunks.specs.Sweeping.{swingBy}
+use Rattle.index.specs.Scanning.{oddIn, scanKept}
 use Rattle.runs.proofs.Walks.{Depth}
 
 -- a word of the chunk

@@ -18,10 +18,10 @@ use Rattle.index.specs.declared.Fault.the-variants.{Closer, Opener}
 use Rattle.index.specs.Types.{Sought}
 use Rattle.index.specs.Types.{On, At}
 use Rattle.runs.specs.Runs.{verdictOf}
-use Rattle.index.specs.Swinging.{dip, peak, Apart}
+use Rattle.blocks.specs.Swinging.{dip, peak, Apart}
 use Rattle.index.specs.Settling.{limitOf, faultOfBracket, depthPast, seek}
 use Rattle.index.proofs.SeekLaws.{seek-none, seek-fault, seek-past, seek-on, seek-at}
-use Rattle.index.proofs.SwingLaws.{dip-ge, peak-ge}
+use Rattle.blocks.proofs.SwingLaws.{dip-ge, peak-ge}
 
 -- ---- one place
 

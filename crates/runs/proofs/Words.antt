@@ -17,13 +17,14 @@ use Rattle.rules.proofs.Counting.{count-ext, count-cat}
 use Rattle.rules.proofs.WordLaws.{wordAt-ext, bit-at}
 use Rattle.rules.proofs.LayoutLaws.{Cells, laid-cells}
 use Rattle.index.specs.Types.{Span}
-use Rattle.index.specs.Guessing.{guessed, guessBit}
-use Rattle.index.specs.Writing.{over, rewritten, marksTill, levelsTill}
-use Rattle.index.specs.Scanning.{scanWord, scanWords}
-use Rattle.index.specs.Settling.{maskIn, turned, flipWord, flipWords}
-use Rattle.index.specs.Levelling.{deepAt, levelBy, levelWord, levelWords}
-use Rattle.index.proofs.MarkLaws.{guessed-true}
-use Rattle.index.proofs.WriteLaws.{over-in, over-below, over-above}
+use Rattle.blocks.specs.Guessing.{guessed, guessBit}
+use Rattle.chunks.specs.Writing.{over, rewritten, marksTill, levelsTill}
+use Rattle.chunks.specs.Sweeping.{scanWord, scanWords}
+use Rattle.chunks.specs.Flipping.{maskIn, turned, flipWord, flipWords}
+use Rattle.blocks.specs.Spreading.{deepAt}
+use Rattle.chunks.specs.Levels.{levelBy, levelWord, levelWords}
+use Rattle.blocks.proofs.MarkLaws.{guessed-true}
+use Rattle.chunks.proofs.WriteLaws.{over-in, over-below, over-above}
 use Rattle.runs.proofs.Walks.{Depth}
 use Rattle.runs.proofs.Truth.{In, Holds}
 

@@ -9,7 +9,7 @@ use lib.ListN.{length, take, length-drop}
 use lib.Seq.{length-take-le, take-all, getD-take}
 use lib.Dec.{eqb, ltb}
 use borrow.Author.Tests.{ltb-true, ltb-false}
-use Rattle.query.proofs.PlaceLaws.{first-ge, first-hit, first-miss, first-skip, first-at}
+use Rattle.paths.proofs.PlaceLaws.{first-ge, first-hit, first-miss, first-skip, first-at}
 use Rattle.show.specs.Lines.{isFeed, lineEnd, shown}
 use Rattle.show.proofs.Inputs.{long-path, long-record}
 

@@ -8,7 +8,7 @@ use lib.Seq.{length-take-le, take-all}
 use borrow.Author.Tests.{lt-ltb, le-ltb}
 use Rattle.rules.specs.Layout.{listed, widthOf, sizeOf}
 use Rattle.show.specs.Running.{multiples, cutsOf}
-use Rattle.query.proofs.PlaceLaws.{first-le}
+use Rattle.paths.proofs.PlaceLaws.{first-le}
 use Rattle.show.specs.Lines.{isFeed, lineEnd, placed, zeros, lineIn, lineOf, shown}
 
 -- ---- buffers
@@ -48,11 +48,11 @@ zeros-long k = length-replicate k 0
 pub take-fits : (l : List ℕ) {m k : ℕ} → length l ≡ k → m ≤ k → m ≡ length (take m l)
 take-fits l {m} e h = sym (length-take-le m l (omega (arith, e, h)))
 
-pub lent : (text path : List ℕ) → length text ≤ 16384 → {count : ℕ} {words cuts : List ℕ} → count ≡ (length text - 1) / 1024 → words ≡ zeros 2560 → cuts ≡ multiples 15
-    → lineIn text (take (10 * ((length text + 63) / 64)) words) (take count cuts) path ≡ lineOf text path
+pub lent : (text path : List ℕ) → length text ≤ 16384 → {count size : ℕ} {words cuts : List ℕ} → count ≡ (length text - 1) / 1024 → size ≡ sizeOf 4 (length text) → words ≡ zeros 2560 → cuts ≡ multiples 15
+    → lineIn text (take size words) (take count cuts) path ≡ lineOf text path
 unfolding lineOf cutsOf sizeOf widthOf
-lent text path l ec ew eu =
-    rw (ec, ew, eu, take-zeros (10 * ((length text + 63) / 64)) 2560 (omega arith), take-multiples ((length text - 1) / 1024) 15 (omega arith))
+lent text path l ec es ew eu =
+    rw (ec, es, ew, eu, take-zeros (10 * ((length text + 63) / 64)) 2560 (omega arith), take-multiples ((length text - 1) / 1024) 15 (omega arith))
 
 -- ---- cases of the line
 

@@ -10,7 +10,7 @@ use Rattle.index.specs.declared.Answer as job
 use Rattle.index.specs.declared.Answer.the-variants.{Done, Refused, Faulty}
 use Rattle.index.specs.Answers.{refusalNumber, refusalPlace, faultNumber, faultPlace}
 use Rattle.query.specs.declared.types.Answer.{Answer}
-use Rattle.query.specs.Places.{firstAt}
+use Rattle.paths.specs.Places.{firstAt}
 use Rattle.query.specs.Walk.{onFound}
 use Rattle.query.specs.Answers as query
 use Rattle.show.specs.declared.lines.Line.{Line}

@@ -7,6 +7,7 @@ ghost use Rattle.show.specs.Running.{multiples};
 ghost use Rattle.show.specs.Lines as Lines;
 use crate::job::run_job;
 use index::Answer;
+use layout::size_of;
 use numbers::fault_number;
 use numbers::fault_place;
 use numbers::refusal_number;
@@ -101,7 +102,7 @@ fn line_of(text: &[u8], path: &[u8]) -> Line
     ensures { λ r. ⌜ r ≡ Lines.lineOf (now (text .entry)) (now (path .entry)) ⌝ }
 {
     let count = cut_count(text.len());
-    let size = 10 * ((text.len() + 63) / 64);
+    let size = size_of(4, text.len());
     let cuts = all_cuts();
     let mut space = all_words();
     let words: &mut [u64] = &mut space;

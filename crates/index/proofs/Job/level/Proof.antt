@@ -5,7 +5,8 @@ use native.Mathlib.Omega.{arith}
 use Rattle.index.specs.declared.Step.the-variants.{Level}
 use Rattle.index.specs.declared.checks.Span.{Span}
 use Rattle.index.specs.Checks.{chunkAt}
-use Rattle.index.specs.Levelling.{levelChunk, levelWords, levelled, levelledWords}
+use Rattle.chunks.specs.Levels.{levelWords}
+use Rattle.index.specs.Levelling.{levelChunk, levelled, levelledWords}
 use Rattle.index.proofs.StepLaws.{fitting, lent-chunk, handed, as-refused, as-done}
 use Rattle.index.proofs.Job.level.Statement.{statement}
 use Rattle.index.proofs.Job.level.Tie as tie

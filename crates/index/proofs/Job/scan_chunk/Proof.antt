@@ -10,12 +10,13 @@ use Rattle.rules.specs.Bits.{quoteBit}
 use Rattle.rules.proofs.Booleans.{bool2}
 use Rattle.index.specs.declared.Kept.{Kept}
 use Rattle.index.specs.declared.checks.Span.{Span}
-use Rattle.index.specs.declared.scanning.Swept.{Swept}
-use Rattle.index.specs.Guessing.{guessed}
-use Rattle.index.specs.Swinging.{Small}
+use Rattle.chunks.specs.declared.scanning.Swept.{Swept}
+use Rattle.blocks.specs.Guessing.{guessed}
+use Rattle.blocks.specs.Swinging.{Small}
 use Rattle.index.specs.Checks.{chunkAt}
 use Rattle.index.specs.Depth.{keptOf}
-use Rattle.index.specs.Scanning.{oddIn, sweptOf, scanWords, scanKept, scanChunk}
+use Rattle.chunks.specs.Sweeping.{sweptOf, scanWords}
+use Rattle.index.specs.Scanning.{oddIn, scanKept, scanChunk}
 use Rattle.index.proofs.StepLaws.{lent-chunk, small-swing}
 use Rattle.index.proofs.Job.scan_chunk.Statement.{statement}
 use Rattle.index.proofs.Job.scan_chunk.Tie as tie

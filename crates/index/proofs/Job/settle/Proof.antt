@@ -14,7 +14,7 @@ use Rattle.index.specs.declared.checks.Span.{Span}
 use Rattle.index.specs.declared.settling.Found.{Found}
 use Rattle.index.specs.Checks.{withChunk, withState, spanOf, isLast, refusal}
 use Rattle.index.specs.Stepping.{Fitting}
-use Rattle.index.specs.Writing.{Lent}
+use Rattle.chunks.specs.Writing.{Lent}
 use Rattle.index.specs.Settling.{settleWords, settleChunk, chunkFault, foundAnswer, foundJob, foundBy, settled, settledWords}
 use Rattle.index.proofs.StepLaws.{fitting, lent-chunk, handed, as-refused, as-done}
 use Rattle.index.proofs.Job.settle.Statement.{statement}

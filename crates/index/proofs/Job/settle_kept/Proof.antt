@@ -10,11 +10,12 @@ use Rattle.rules.specs.Word.{xor}
 use Rattle.index.specs.declared.Kept.{Kept}
 use Rattle.index.specs.declared.Job.{Job}
 use Rattle.index.specs.declared.checks.Span.{Span}
-use Rattle.index.specs.declared.swing.Swing.{Swing}
-use Rattle.index.specs.Swinging.{Small}
+use Rattle.blocks.specs.declared.swing.Swing.{Swing}
+use Rattle.blocks.specs.Swinging.{Small}
 use Rattle.index.specs.Checks.{chunkAt, spanOf}
 use Rattle.index.specs.Depth.{keptOf}
-use Rattle.index.specs.Settling.{guessWrong, settleKept, settleWords, flipWords, swingIn}
+use Rattle.chunks.specs.Flipping.{flipWords, swingIn}
+use Rattle.index.specs.Settling.{guessWrong, settleKept, settleWords}
 use Rattle.index.proofs.StepLaws.{lent-chunk, small-swing}
 use Rattle.index.proofs.Job.settle_kept.Statement.{statement}
 use Rattle.index.proofs.Job.settle_kept.Tie as tie

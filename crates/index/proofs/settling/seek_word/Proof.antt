@@ -9,7 +9,7 @@ use lib.Bits.{bitOr, or-lt}
 use lib.Count.{trailingZeros}
 use Rattle.rules.specs.Word.{bit}
 use Rattle.rules.proofs.BitWalk.{Standing, standing-start, standing-low, standing-next, standing-none}
-use Rattle.index.specs.Swinging.{Brackets}
+use Rattle.blocks.specs.Swinging.{Brackets}
 use Rattle.index.specs.Settling.{depthPast, seek}
 use Rattle.index.specs.declared.settling.Sought.the-variants.{At}
 use Rattle.index.proofs.SeekLaws.{word-fault, word-past, word-end}

@@ -10,20 +10,22 @@ use lib.Bits.{bitAnd}
 use Rattle.rules.specs.Word.{wordAt}
 use Rattle.rules.specs.Bytes.{opens, closes, has}
 use Rattle.rules.specs.Bits.{plain}
-use Rattle.rules.specs.Layout.{widthOf, bitmapOf, cell}
+use Rattle.rules.specs.Layout.{mask, widthOf, cell}
 use Rattle.rules.proofs.RuleLaws.{plain-apart}
+use Rattle.layout.specs.declared.Map.the-variants.{Mask}
 use Rattle.index.specs.declared.Fault.{Fault}
 use Rattle.index.specs.declared.settling.Sought.{Sought}
 use Rattle.index.specs.declared.settling.Sought.the-variants.{On, At}
-use Rattle.index.specs.declared.block.Classes.{Classes}
-use Rattle.index.specs.Block.{lanesFor, BlockOf}
-use Rattle.index.specs.Swinging.{Brackets}
-use Rattle.index.specs.Writing.{Lent}
-use Rattle.index.specs.Settling.{maskIn, seek, seekIn}
-use Rattle.index.proofs.MarkLaws.{plain-of}
-use Rattle.index.proofs.LentLaws.{mask-word-of}
+use Rattle.blocks.specs.declared.block.Classes.{Classes}
+use Rattle.blocks.specs.Block.{lanesFor, BlockOf}
+use Rattle.blocks.specs.Swinging.{Brackets}
+use Rattle.chunks.specs.Writing.{Lent}
+use Rattle.chunks.specs.Flipping.{maskIn}
+use Rattle.index.specs.Settling.{seek, seekIn}
+use Rattle.blocks.proofs.MarkLaws.{plain-of}
+use Rattle.chunks.proofs.LentLaws.{mask-word-of}
 use Rattle.index.proofs.SeekLaws.{seek-on, seek-at, seek-le}
-use Rattle.index.proofs.ScanLaws.{lent-long, lent-row, lent-place}
+use Rattle.chunks.proofs.ScanLaws.{lent-long, lent-map, lent-place}
 use Rattle.index.proofs.settling.seek_words.Statement.{statement}
 use Rattle.index.proofs.settling.seek_words.Tie as tie
 
@@ -49,11 +51,11 @@ module _ {text words : List ℕ} {levels from to width start depth w : ℕ} (len
   parts : 64 * (to - w) ≡ 64 + 64 * (to - (w + 1))
   parts = omega arith
 
-  module _ {v : ℕ} {classes : Classes} {found : Sought} (ev : v ≡ cell words levels width (bitmapOf 1) w) (fits : v < 2 ^ 64)
+  module _ {v : ℕ} {classes : Classes} {found : Sought} (ev : v ≡ cell words levels width mask w) (fits : v < 2 ^ 64)
       (block : BlockOf (lanesFor false) (λ j. getD text (64 * w + j) 0) classes)
       (sought : (o c : ℕ → Bool) → Brackets o c (64 * w) (bitAnd (classes .c) (2 ^ 64 - 1 - v)) (bitAnd (classes .d) (2 ^ 64 - 1 - v)) → found ≡ seek o c depth (64 * w) 64) where
     found-is : found ≡ seek o c depth (64 * w) 64
-    unfolding bitmapOf lanesFor has wordAt
+    unfolding lanesFor has wordAt
     found-is =
         let by = maskIn words levels (length text) in
         let m = mask-word-of words levels (length text) w (inv .wide) ev fits in
@@ -96,7 +98,7 @@ block-requires : tie.Need-block-requires Inv-loop μ-loop
 block-requires c κs = omega (arith, here (c .before .before .before .before .before .before .before .pre) (c .before .before .loop .inv) (c .before .loop-test .taken))
 
 get-word-requires : tie.Need-get-word-requires Inv-loop μ-loop
-get-word-requires c κs = (lent-row (c .before .before .before .before .before .before .before .before .pre) (c .before .before .before .loop .inv .wide) 1 (c .before .before .before .loop .w) (omega arith) (c .before .before .loop-test .taken), lent-long (c .before .before .before .before .before .before .before .before .pre) (c .before .before .before .loop .inv .wide))
+get-word-requires c κs = (lent-map (c .before .before .before .before .before .before .before .before .pre) (c .before .before .before .loop .inv .wide) Mask (c .before .before .before .loop .w) tt (c .before .before .loop-test .taken), lent-long (c .before .before .before .before .before .before .before .before .pre) (c .before .before .before .loop .inv .wide))
 
 seek-word-requires : tie.Need-seek-word-requires Inv-loop μ-loop
 seek-word-requires c κs = (shallow (c .before .before .before .before .before .before .before .before .before .before .before .pre) (c .before .before .before .before .before .before .loop .inv) (c .before .before .before .before .before .loop-test .taken) (c .before .before .before .before .before .before .before .before .before .before .before .fits .start .fits), omega (arith, here (c .before .before .before .before .before .before .before .before .before .before .before .pre) (c .before .before .before .before .before .before .loop .inv) (c .before .before .before .before .before .loop-test .taken), c .before .before .before .before .before .before .before .before .before .before .before .pre .small))

@@ -7,9 +7,9 @@ use lib.Pow.{shr-le}
 use lib.Count.{ones-le}
 use Rattle.rules.specs.Word.{count}
 use Rattle.rules.specs.Layout.{bitIn}
-use Rattle.query.specs.Places.{nthAt}
-use Rattle.query.specs.Helpers.{mapped}
-use Rattle.query.proofs.PlaceLaws.{nth-none, nth-skip, nth-few}
+use Rattle.paths.specs.Places.{nthAt}
+use Rattle.layout.specs.Maps.{mapped}
+use Rattle.paths.proofs.PlaceLaws.{nth-none, nth-skip, nth-few}
 use Rattle.query.proofs.Standing.{standing-from, standing-whole, standing-ones}
 use Rattle.query.proofs.Lents.{readable-to}
 use borrow.Author.Needs.{needs}

@@ -1,24 +1,14 @@
--- The address lies among the words.
-use Prim.Native.Nat.{ℕ}
-use mathlib.Core.Path.{ap}
-use native.Mathlib.Omega.{arith}
-use lib.ListN.{getD}
-use Rattle.query.proofs.Lents.{address-in}
+-- A word of the bitmap, by the layout.
+use Rattle.query.proofs.Lents.{in-map}
 use borrow.Author.Needs.{needs}
 use Rattle.query.proofs.bits.word.Statement.{statement}
 use Rattle.query.proofs.bits.word.Tie as tie
 
-address-of-requires : tie.Need-address-of-requires
-address-of-requires c κs = search needs
-
-mul-result : tie.Need-mul-result
-mul-result c = omega (arith, address-in _ _ _ (c .before .before .pre .1), c .address-of .ensures)
-
-shared-slice-read-result : tie.Need-shared-slice-read-result
-shared-slice-read-result c = omega (arith, address-in _ _ _ (c .before .before .before .pre .1), c .before .address-of .ensures, c .before .before .before .pre .0)
+get-word-requires : tie.Need-get-word-requires
+get-word-requires c κs = (in-map (c .before .pre .1), c .before .pre .0)
 
 returns : tie.Need-returns
-returns c = ap (λ (a : ℕ). getD (c .before .before .before .args .words .now) a 0) (c .before .address-of .ensures)
+returns c = c .get-word .ensures
 
 pub word-spec : {M : Type 1} → statement M
-word-spec = tie.close (tie.spec address-of-requires mul-result shared-slice-read-result returns)
+word-spec = tie.close (tie.spec get-word-requires returns)

@@ -3,9 +3,9 @@ use Prim.Native.Nat.{_≤_}
 use mathlib.Core.Path.{_≡_, refl, sym, ap, _∙_}
 use mathlib.Core.Bool.{not}
 use native.Mathlib.Omega.{arith}
-use Rattle.query.specs.Places.{byteIn, pastLast}
+use Rattle.paths.specs.Places.{byteIn, pastLast}
 use Rattle.query.specs.Items.{solid}
-use Rattle.query.proofs.PlaceLaws.{last-none, last-here, last-next}
+use Rattle.paths.proofs.PlaceLaws.{last-none, last-here, last-next}
 use borrow.Author.Needs.{needs}
 use Rattle.query.proofs.blanks.drop_blanks.Statement.{statement}
 use Rattle.query.proofs.blanks.drop_blanks.Tie as tie

@@ -3,9 +3,9 @@ use Prim.Native.Nat.{_-_, _≤_}
 use mathlib.Core.Path.{_≡_, refl, sym, ap, _∙_}
 use mathlib.Core.Bool.{not}
 use native.Mathlib.Omega.{arith}
-use Rattle.query.specs.Places.{byteIn, firstAt}
+use Rattle.paths.specs.Places.{byteIn, firstAt}
 use Rattle.query.specs.Items.{solid}
-use Rattle.query.proofs.PlaceLaws.{first-none, first-here, first-next}
+use Rattle.paths.proofs.PlaceLaws.{first-none, first-here, first-next}
 use borrow.Author.Needs.{needs}
 use Rattle.query.proofs.blanks.skip_blanks.Statement.{statement}
 use Rattle.query.proofs.blanks.skip_blanks.Tie as tie

@@ -7,7 +7,7 @@ use lib.Count.{trailing-le}
 use types.Run.{OneOf, miss}
 use denote.Enum.Declared.{tagOf}
 use Rattle.rules.specs.Layout.{bitIn, commas}
-use Rattle.query.specs.Places.{byteIn, between}
+use Rattle.paths.specs.Places.{byteIn, between}
 use Rattle.query.specs.Items.{lent, itemAt}
 use Rattle.query.specs.declared.items.Item.{Item}
 use Rattle.query.proofs.items.Item.{the-type}

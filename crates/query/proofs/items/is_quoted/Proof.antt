@@ -4,7 +4,7 @@ use native.Mathlib.Omega.{arith}
 use borrow.Author.Tests.{not-true, not-false, lt-ltb, le-ltb}
 use Rattle.rules.specs.Layout.{bitIn, quotes}
 use Rattle.query.specs.Items.{quoted}
-use Rattle.query.proofs.PlaceLaws.{first-le}
+use Rattle.paths.proofs.PlaceLaws.{first-le}
 use borrow.Author.Needs.{needs}
 use Rattle.query.proofs.items.is_quoted.Statement.{statement}
 use Rattle.query.proofs.items.is_quoted.Tie as tie

@@ -2,7 +2,7 @@
 use native.Mathlib.Omega.{arith}
 use Rattle.rules.specs.Layout.{bitIn, commas}
 use Rattle.query.specs.Items.{itemNo}
-use Rattle.query.proofs.PlaceLaws.{first-ge, first-le}
+use Rattle.paths.proofs.PlaceLaws.{first-ge, first-le}
 use Rattle.query.proofs.Lents.{can-read}
 use Rattle.query.proofs.items.item_from.Statement.{statement}
 use Rattle.query.proofs.items.item_from.Tie as tie

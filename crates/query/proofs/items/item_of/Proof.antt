@@ -3,7 +3,7 @@ use native.Mathlib.Omega.{arith}
 use borrow.Author.Tests.{lt-ltb, le-ltb}
 use Rattle.rules.specs.Layout.{bitIn, colons}
 use Rattle.query.specs.Items.{itemAt}
-use Rattle.query.proofs.PlaceLaws.{first-ge}
+use Rattle.paths.proofs.PlaceLaws.{first-ge}
 use Rattle.query.proofs.Lents.{can-read}
 use Rattle.query.proofs.items.item_of.Statement.{statement}
 use Rattle.query.proofs.items.item_of.Tie as tie

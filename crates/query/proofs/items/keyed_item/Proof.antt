@@ -3,9 +3,9 @@ use Prim.Native.Nat.{_+_, _≤_, _<_}
 use mathlib.Core.Path.{sym, _∙_}
 use native.Mathlib.Omega.{arith}
 use borrow.Author.Tests.{not-true, not-false}
-use Rattle.query.specs.Places.{byteIn}
+use Rattle.paths.specs.Places.{byteIn}
 use Rattle.query.specs.Items.{solid, keyed}
-use Rattle.query.proofs.PlaceLaws.{first-le, last-bounds}
+use Rattle.paths.proofs.PlaceLaws.{first-le, last-bounds}
 use Rattle.query.proofs.ItemLaws.{quoted-long}
 use Rattle.query.proofs.Lents.{can-read}
 use borrow.Author.Needs.{needs}

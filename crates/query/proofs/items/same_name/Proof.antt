@@ -2,7 +2,7 @@
 use Prim.Native.Nat.{suc, _+_, _-_, _≤_}
 use mathlib.Core.Path.{_≡_, sym, _∙_}
 use native.Mathlib.Omega.{arith}
-use Rattle.query.specs.Places.{byteIn, between}
+use Rattle.paths.specs.Places.{byteIn, between}
 use Rattle.query.specs.Items.{same}
 use Rattle.query.proofs.Names.{same-short, same-none, same-next, same-stop}
 use Rattle.query.proofs.items.same_name.Statement.{statement}

@@ -1,9 +1,9 @@
 -- By the two places, as the definition.
 use native.Mathlib.Omega.{arith}
 use borrow.Author.Tests.{lt-ltb, le-ltb}
-use Rattle.query.specs.Places.{byteIn}
+use Rattle.paths.specs.Places.{byteIn}
 use Rattle.query.specs.Items.{solid, valueAt}
-use Rattle.query.proofs.PlaceLaws.{first-le}
+use Rattle.paths.proofs.PlaceLaws.{first-le}
 use borrow.Author.Needs.{needs}
 use Rattle.query.proofs.items.value_at.Statement.{statement}
 use Rattle.query.proofs.items.value_at.Tie as tie

@@ -1,7 +1,7 @@
 -- Test by test, as the definition.
 use native.Mathlib.Omega.{arith}
 use borrow.Author.Tests.{eq-eqb, ne-eqb, lt-ltb, le-ltb}
-use Rattle.query.specs.Places.{byteIn}
+use Rattle.paths.specs.Places.{byteIn}
 use Rattle.query.specs.Walk.{framed}
 use Rattle.query.proofs.walk.is_framed.Statement.{statement}
 use Rattle.query.proofs.walk.is_framed.Tie as tie

@@ -3,7 +3,7 @@ use Prim.Native.Nat.{_+_, _-_, _<_}
 use mathlib.Core.Path.{_≡_, sym, ap, _∙_}
 use native.Mathlib.Omega.{arith}
 use borrow.Author.Tests.{not-true, not-false}
-use Rattle.query.specs.Places.{byteIn}
+use Rattle.paths.specs.Places.{byteIn}
 use Rattle.query.specs.Items.{lent}
 use Rattle.query.specs.Walk.{ofItem, numberStep}
 use Rattle.query.specs.declared.types.Refusal.the-variants.{NoNumber}

@@ -6,9 +6,9 @@ use native.Mathlib.Omega.{arith}
 use lib.ListN.{length}
 use types.Run.{OneOf, miss}
 use denote.Enum.Declared.{tagOf}
-use Rattle.query.specs.declared.path.Step.{Step}
-use Rattle.query.proofs.path.Step.{the-type}
-use Rattle.query.proofs.PathLaws.{name-told, number-told}
+use Rattle.paths.specs.declared.Step.{Step}
+use Rattle.paths.proofs.Step.{the-type}
+use Rattle.paths.proofs.PathLaws.{name-told, number-told}
 use Rattle.query.proofs.Going.{Going, going-start, level-name, going-name, stop-name, level-number, going-number, stop-number, stop-end}
 use borrow.Author.Needs.{needs}
 use Rattle.query.proofs.walk.walk_path.Statement.{statement}

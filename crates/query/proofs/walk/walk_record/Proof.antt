@@ -5,7 +5,7 @@ use native.Mathlib.Omega.{arith}
 use lib.ListN.{length}
 use types.Run.{OneOf}
 use denote.Enum.Declared.{tagOf}
-use Rattle.query.specs.Places.{byteIn}
+use Rattle.paths.specs.Places.{byteIn}
 use Rattle.query.specs.Walk.{walk}
 use Rattle.query.specs.declared.items.Item.{Item}
 use Rattle.query.proofs.items.Item.{the-type}

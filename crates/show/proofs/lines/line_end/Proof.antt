@@ -4,8 +4,8 @@ use mathlib.Core.Path.{_≡_, refl, sym, _∙_}
 use native.Mathlib.Omega.{arith}
 use lib.ListN.{length}
 use borrow.Author.Tests.{eq-eqb, ne-eqb}
-use Rattle.query.specs.Places.{firstAt}
-use Rattle.query.proofs.PlaceLaws.{first-none, first-here, first-next}
+use Rattle.paths.specs.Places.{firstAt}
+use Rattle.paths.proofs.PlaceLaws.{first-none, first-here, first-next}
 use Rattle.show.specs.Lines.{isFeed, lineEnd}
 use Rattle.show.proofs.lines.line_end.Statement.{statement}
 use Rattle.show.proofs.lines.line_end.Tie as tie

@@ -1,6 +1,7 @@
 -- The words and cuts that are lent are the first of those that stand ready.
 use mathlib.Core.Path.{_∙_}
 use native.Mathlib.Omega.{arith}
+use Rattle.rules.specs.Layout.{widthOf, sizeOf}
 use Rattle.show.proofs.Inputs.{take-fits, zeros-long, multiples-long, lent}
 use borrow.Author.Needs.{needs}
 use Rattle.show.proofs.lines.line_of.Statement.{statement}
@@ -9,11 +10,8 @@ use Rattle.show.proofs.lines.line_of.Tie as tie
 cut-count-requires : tie.Need-cut-count-requires
 cut-count-requires c κs = search needs
 
-add-size : tie.Need-add-size
-add-size c = search needs
-
-mul-size : tie.Need-mul-size
-mul-size c = search needs
+size-of-requires : tie.Need-size-of-requires
+size-of-requires c κs = search needs
 
 all-cuts-requires : tie.Need-all-cuts-requires
 all-cuts-requires c κs = search needs
@@ -25,6 +23,7 @@ slice-aggregate-words : tie.Need-slice-aggregate-words
 slice-aggregate-words c = search needs
 
 slice-aggregate-line-in : tie.Need-slice-aggregate-line-in
+unfolding sizeOf widthOf
 slice-aggregate-line-in c = let w = c .before .before .all-words in rw (w .ensures) (take-fits _ (zeros-long 2560) (omega arith))
 
 array-share-prefix-cuts : tie.Need-array-share-prefix-cuts
@@ -38,16 +37,15 @@ line-in-requires c κs = search needs
 
 returns : tie.Need-returns
 returns c =
-    let a = c .before .before .before .before .before .before .before .before .before .before .args in
-    c .before .line-in .ensures ∙ lent (a .text .now) (a .path .now) (c .before .before .before .before .before .before .before .before .before .before .pre) (c .before .before .before .before .before .before .before .cut-count .ensures) (c .before .before .before .before .before .all-words .ensures) (c .before .before .before .before .before .before .all-cuts .ensures)
+    let a = c .before .before .before .before .before .before .before .before .before .before .before .args in
+    c .before .line-in .ensures ∙ lent (a .text .now) (a .path .now) (c .before .before .before .before .before .before .before .before .before .before .before .pre) (c .before .before .before .before .before .before .before .before .cut-count .ensures) (c .before .before .before .before .before .before .before .size-of .ensures) (c .before .before .before .before .before .all-words .ensures) (c .before .before .before .before .before .before .all-cuts .ensures)
 
 pub line-of-spec : {M : Type 1} → statement M
 line-of-spec =
     tie.close
     (tie.spec
     cut-count-requires
-    add-size
-    mul-size
+    size-of-requires
     all-cuts-requires
     all-words-requires
     slice-aggregate-words

@@ -1,0 +1,8 @@
+-- Laws of words, for this crate and those above.
+pub mod Filling
+pub mod Lanes
+pub mod Parities
+pub mod EscapeLaw
+pub mod SwingLaws
+pub mod MarkLaws
+pub mod SpreadLaws

@@ -1,0 +1,4 @@
+pub mod Writing
+pub mod Sweeping
+pub mod Flipping
+pub mod Levels

@@ -1,0 +1,4 @@
+pub mod Places
+pub mod Grammar
+pub mod Path
+pub mod Helpers
