@@ -12,5 +12,7 @@ pub mod Calls
 pub mod Reach
 pub mod Theorems
 pub mod Progress
+pub mod Settles
+pub mod Had
 pub mod Refused
 pub mod Example

@@ -25,10 +25,10 @@ use Rattle.index.proofs.CloseLaws.{stopped-fault, closing-done}
 use Rattle.runs.specs.Runs.{Call, scan, settle, level, close, Held, answer, act, run, start, Reached, Ends, verdictOf, lacks, total, stepsLeft, Next, scan-next, settle-next, level-next, nextStep, Left}
 use Rattle.runs.proofs.Spans.{Shape, count-is, chunk-new, chunk-old}
 use Rattle.runs.proofs.Good.{Good}
-use Rattle.index.proofs.NumberLaws.{settle-fault}
+use Rattle.index.proofs.NumberLaws.{settle-fault, close-done}
 use Rattle.runs.proofs.Calls.{announced-found}
 use Rattle.runs.proofs.Reach.{Fine, scan-fine, settle-fine, level-fine}
-use Rattle.runs.proofs.Theorems.{good, stopped-named, lengths-exactly, sound-faulty}
+use Rattle.runs.proofs.Theorems.{good, every-one, stopped-named, lengths-exactly, sound-faulty}
 
 -- ---- "An open job over a sound record" is never stopped
 
@@ -54,7 +54,7 @@ search-first p (suc m) = go (search-first p m) (p m) refl
         here i l (yes e) = ap p e ∙ q
         here i l (no n) = h i (omega (arith, n))
 
-every-all : (p : ℕ → Bool) (m : ℕ) → ((i : ℕ) → i < m → p i ≡ true) → every p m ≡ true
+pub every-all : (p : ℕ → Bool) (m : ℕ) → ((i : ℕ) → i < m → p i ≡ true) → every p m ≡ true
 unfolding every
 every-all p zero q = refl
 every-all p (suc m) q = ap₂ _&&_ (every-all p m (λ i l. q i (omega arith))) (q m (omega arith))
@@ -72,7 +72,7 @@ module _ {text : List ℕ} {levels : ℕ} {h : Held} (r : Reached text levels h)
   same : sameLengths j (length text) (length (h .words)) ≡ true
   same = lengths-exactly r live (length text) (length (h .words)) .1 (refl, refl)
 
-  accept : (s : Step) (k : ℕ) → k < j .count → taken s (chunkAt j k) ≡ false → ready s j k ≡ true → refusal s j (length text) (length (h .words)) k ≡ Done
+  pub accept : (s : Step) (k : ℕ) → k < j .count → taken s (chunkAt j k) ≡ false → ready s j k ≡ true → refusal s j (length text) (length (h .words)) k ≡ Done
   accept s k l t e = if-done s j (length text) (length (h .words)) k o same (omega (arith, l, count-is (g .shape))) t e
 
   before-first : (k : ℕ) → k < j .count → ((i : ℕ) → i < k → chunkAt j i .levelled ≡ true) → settledBefore j k ≡ true
@@ -166,6 +166,71 @@ lowers {text} {levels} {h} r o (level-next k e) =
     let s = g r o .shape in
     rw e (left-less s k (levelChunk (h .job) k) (omega (arith, a .chunk, count-is s)) (lacks-level (h .job) k (a .untaken)))
 
+-- ---- "until each chunk has had three; then it closes"
+
+total-none : (f : ℕ → ℕ) (m : ℕ) → ((i : ℕ) → i < m → f i ≡ 0) → total f m ≡ 0
+unfolding total
+total-none f zero h = refl
+total-none f (suc m) h = omega (arith, total-none f m (λ i l. h i (omega arith)), h m (omega arith))
+
+none-total : (f : ℕ → ℕ) (m : ℕ) → total f m ≡ 0 → (i : ℕ) → i < m → f i ≡ 0
+unfolding total
+none-total f zero e i l = absurd (omega arith)
+none-total f (suc m) e i l = go (ℕ-discrete i m) (λ q. none-total f m (omega arith) i q)
+  where
+    go : Dec (i ≡ m) → (i < m → f i ≡ 0) → f i ≡ 0
+    go (yes q) rest = ap f q ∙ omega arith
+    go (no n) rest = rest (omega (arith, n))
+
+lacks-none : (c : Chunk) → c .scanned ≡ true → c .settled ≡ true → c .levelled ≡ true → lacks c ≡ 0
+unfolding lacks
+lacks-none c p q r = omega (arith, ap (λ (b : Bool). digit (not b)) p, ap (λ (b : Bool). digit (not b)) q, ap (λ (b : Bool). digit (not b)) r)
+
+none-lacks : (c : Chunk) → lacks c ≡ 0 → c .levelled ≡ true
+unfolding lacks
+none-lacks c e = go (c .levelled) refl
+  where
+    go : (b : Bool) → c .levelled ≡ b → c .levelled ≡ true
+    go true p = p
+    go false p = absurd (omega (arith, ap (λ (b : Bool). digit (not b)) p))
+
+module _ {text : List ℕ} {levels : ℕ} {h : Held} (r : Reached text levels h) (unclosed : h .job .state ≡ Closed → ⊥) where
+  -- a levelled chunk has had the two other steps
+  pub levelled-last : (k : ℕ) → k < h .job .count → chunkAt (h .job) k .levelled ≡ true → (chunkAt (h .job) k .settled ≡ true) × (chunkAt (h .job) k .scanned ≡ true)
+  levelled-last k l e =
+      let ok = good r unclosed .ok k l in
+      let s = ok .settled-first e in
+      (s, ok .truth s .scanned-is)
+
+  -- no step is left exactly when every chunk is levelled, which is what close asks for
+  pub three-each : (stepsLeft (h .job) ≡ 0) ↔ (allLevelled (h .job) ≡ true)
+  unfolding stepsLeft allLevelled
+  three-each = (there, back)
+    where
+      count : chunksOf (h .job) ≡ h .job .count
+      count = count-is (good r unclosed .shape)
+
+      there : total (λ k. lacks (chunkAt (h .job) k)) (h .job .count) ≡ 0 → every (λ k. chunkAt (h .job) k .levelled) (chunksOf (h .job)) ≡ true
+      there e =
+          every-all (λ k. chunkAt (h .job) k .levelled) (chunksOf (h .job))
+          (λ i l. none-lacks (chunkAt (h .job) i) (none-total (λ k. lacks (chunkAt (h .job) k)) (h .job .count) e i (omega (arith, l, count))))
+
+      back : every (λ k. chunkAt (h .job) k .levelled) (chunksOf (h .job)) ≡ true → total (λ k. lacks (chunkAt (h .job) k)) (h .job .count) ≡ 0
+      back e =
+          total-none (λ k. lacks (chunkAt (h .job) k)) (h .job .count)
+          (λ i l.
+          let lev = every-one (λ k. chunkAt (h .job) k .levelled) (chunksOf (h .job)) e i (omega (arith, l, count)) in
+          let had = levelled-last i l lev in
+          lacks-none (chunkAt (h .job) i) (had .1) (had .0) lev)
+
+  -- over a sound record, close answers Done exactly when each chunk has had three
+  pub three-closes : faultOf text ≡ sound → (answer text close h ≡ Done) ↔ (stepsLeft (h .job) ≡ 0)
+  unfolding answer
+  three-closes s = (λ d. three-each .1 (close-done (h .job) (length text) (h .words) .0 d .1 .1), λ e. then-closes r is-open (three-each .0 e))
+    where
+      is-open : h .job .state ≡ Open
+      is-open = state-case (λ x. h .job .state ≡ x → h .job .state ≡ Open) (λ p. p) (λ f p. absurd (never-stopped s r f p)) (λ p. absurd (unclosed p)) (h .job .state) refl
+
 -- ---- every run can be brought to a close
 
 run-more : (text : List ℕ) (cs : List Call) (c : Call) (h : Held) → run text (cs ++ (c ∷ [])) h ≡ act text c (run text cs h)
@@ -182,6 +247,11 @@ reach-more {text} {levels} {h} c r =
       accepted = r .accepted;
       leads = run-more text (r .calls) c (start text levels (r .cuts) (r .words)) ∙ ap (act text c) (r .leads);
     }
+
+-- settle closes no job
+pub settle-live : {text : List ℕ} {levels : ℕ} {h : Held} → Reached text levels h → (h .job .state ≡ Closed → ⊥) → (k : ℕ) → act text (settle k) h .job .state ≡ Closed → ⊥
+unfolding Fine
+settle-live {text} {levels} {h} r l k = settle-fine text levels k h (good r l) .live
 
 -- a step leaves an open job open or stopped
 step-live : {text : List ℕ} {levels : ℕ} {h : Held} {c : Call} → Reached text levels h → h .job .state ≡ Open → Next text h c → act text c h .job .state ≡ Closed → ⊥

@@ -21,12 +21,13 @@ use Rattle.index.specs.declared.Fault.{Fault}
 use Rattle.index.specs.declared.Fault.the-variants.{Closer, Opener, InString, InBracket}
 use Rattle.index.specs.declared.Job.{Job}
 use Rattle.index.specs.Types.{Open, Stopped, Closed}
+use Rattle.index.specs.Answers.{faultNumber, faultPlace}
 use Rattle.index.specs.Checks.{chunksOf, chunkAt, firstWord, spanOf, sameLengths}
 use Rattle.index.specs.Closing.{every, allLevelled, closing, closed, closedWords}
 use Rattle.index.proofs.CheckLaws.{lengths, lengths-same}
 use Rattle.index.proofs.CloseLaws.{closing-closed, close-is}
 use Rattle.index.proofs.NumberLaws.{close-fault, close-done}
-use Rattle.runs.specs.Runs.{close, Held, answer, act, Reached, Ends, ClosedRun, verdictOf}
+use Rattle.runs.specs.Runs.{close, Held, answer, act, Reached, Ends, ClosedRun, verdictOf, Right}
 use Rattle.runs.proofs.Truth.{ChunkOk, Truth}
 use Rattle.runs.proofs.Spans.{Shape, count-is, in-chunk}
 use Rattle.runs.proofs.Steps.{both}
@@ -52,6 +53,24 @@ module _ {text : List ℕ} {levels : ℕ} {h : Held} (r : Reached text levels h)
   pub border-truth : (h .job .state ≡ Closed → ⊥) → (k : ℕ) → k < h .job .count → chunkAt (h .job) k .settled ≡ true → Truth text (chunkAt (h .job) k) (spanOf (h .job) (length text) k)
   border-truth live k l e = good live .ok k l .truth e
 
+  -- "It writes that chunk's quote words": once scanned, they are the rules'
+  pub quotes-right : (h .job .state ≡ Closed → ⊥) → (k : ℕ) → k < h .job .count → chunkAt (h .job) k .scanned ≡ true → Right text levels h k quotes
+  unfolding bitOf
+  quotes-right live k l e w low high = good live .ok k l .quoted e w (low, high)
+
+  -- "The chunk's mask words become right .., also when a fault is found": once settled, they are the rules', in a stopped job too
+  pub mask-right : (h .job .state ≡ Closed → ⊥) → (k : ℕ) → k < h .job .count → chunkAt (h .job) k .settled ≡ true → Right text levels h k mask
+  unfolding bitOf
+  mask-right live k l e w low high = good live .ok k l .masked e w (low, high)
+
+  -- "It writes the chunk's colon and comma words at every level": once levelled, they are the rules'
+  pub levels-right : (h .job .state ≡ Closed → ⊥) → (k : ℕ) → k < h .job .count → chunkAt (h .job) k .levelled ≡ true
+      → (d : ℕ) → 1 ≤ d → d ≤ levels → Right text levels h k (colons d) × Right text levels h k (commas d)
+  unfolding bitOf
+  levels-right live k l e d some few =
+      let ok = good live .ok k l in
+      (λ w low high. ok .coloned e d (some, few) w (low, high), λ w low high. ok .comma-ed e d (some, few) w (low, high))
+
   -- 9 comes exactly when a length is not the job's
   pub lengths-exactly : (h .job .state ≡ Closed → ⊥) → (n w : ℕ) → (sameLengths (h .job) n w ≡ true) ↔ ((n ≡ length text) × (w ≡ length (h .words)))
   lengths-exactly live n w = (there, back)
@@ -71,7 +90,7 @@ module _ {text : List ℕ} {levels : ℕ} {h : Held} (r : Reached text levels h)
 
 -- ---- demand 2, the bits: "Over a sound record every bit is set exactly where the byte-by-byte rules set it"
 
-every-one : (p : ℕ → Bool) (m : ℕ) → every p m ≡ true → (k : ℕ) → k < m → p k ≡ true
+pub every-one : (p : ℕ → Bool) (m : ℕ) → every p m ≡ true → (k : ℕ) → k < m → p k ≡ true
 unfolding every
 every-one p zero e k l = absurd (omega arith)
 every-one p (suc m) e k l = go (ℕ-discrete k m) (both (every p m) (p m) e) (λ h d. every-one p m d k h)
@@ -184,7 +203,7 @@ module _ {text : List ℕ} {levels : ℕ} {f : Fault} {after : List ℕ} (c : Cl
 
 -- ---- demand 3: "they give the same answer and the same words"
 
-same-fault : (f g : Fault) → verdictOf f ≡ verdictOf g → f ≡ g
+pub same-fault : (f g : Fault) → verdictOf f ≡ verdictOf g → f ≡ g
 unfolding verdictOf
 same-fault (Closer p) (Closer q) e = cc
 same-fault (Closer p) (Opener q) e = differ 13 14 refl e
@@ -211,3 +230,28 @@ one-outcome {text} {levels} {a} {b} {after} {also} c d = go a b (c .ends) (d .en
     go a b Ends.done (Ends.fault f) x y = sound-faulty f (sym (done-sound x) ∙ fault-named y)
     go a b (Ends.fault f) Ends.done x y = sound-faulty f (sym (done-sound y) ∙ fault-named x)
     go a b (Ends.fault f) (Ends.fault e) x y = (ap Faulty (same-fault f e (sym (fault-named x) ∙ fault-named y)), fault-zeros x ∙ sym (fault-zeros y))
+
+-- ---- by the record, and not by the answer
+
+-- "Over a sound record": a run that was closed was answered Done, and left the index
+pub sound-closes : {text : List ℕ} {levels : ℕ} {a : Answer} {after : List ℕ} → faultOf text ≡ sound → ClosedRun text levels a after → (a ≡ Done) × (after ≡ index text levels)
+sound-closes {text} {levels} {a} {after} s c = go a (c .ends) c
+  where
+    go : (a : Answer) → Ends a → ClosedRun text levels a after → (a ≡ Done) × (after ≡ index text levels)
+    go a Ends.done x = (refl, words-index x)
+    go a (Ends.fault f) x = sound-faulty f (sym s ∙ fault-named x)
+
+-- "A job closed over a faulty record": it was answered the record's first fault, its number and its place, and left "all its words zero"
+pub faulty-closes : {text : List ℕ} {levels : ℕ} {a : Answer} {after : List ℕ} {n p : ℕ} → faultOf text ≡ faulty n p → ClosedRun text levels a after
+    → (f : Fault) × (a ≡ Faulty f) × (faultNumber f ≡ n) × (faultPlace f ≡ p) × (after ≡ replicate (sizeOf levels (length text)) 0)
+unfolding verdictOf
+faulty-closes {text} {levels} {a} {after} {n} {p} s c = go a (c .ends) c
+  where
+    go : (a : Answer) → Ends a → ClosedRun text levels a after → (f : Fault) × (a ≡ Faulty f) × (faultNumber f ≡ n) × (faultPlace f ≡ p) × (after ≡ replicate (sizeOf levels (length text)) 0)
+    go a Ends.done x =
+        let e : sound ≡ faulty n p = sym (done-sound x) ∙ s in
+        let z : _≡_ {A = ℕ} 0 1 = cc in
+        absurd (omega arith)
+    go a (Ends.fault f) x =
+        let e : faulty (faultNumber f) (faultPlace f) ≡ faulty n p = sym (fault-named x) ∙ s in
+        (f, refl, cc, cc, fault-zeros x)

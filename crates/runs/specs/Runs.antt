@@ -2,16 +2,17 @@
 use mathlib.Core.Path.{_≡_}
 use mathlib.Core.Bool.{Bool, true, false, not}
 use mathlib.Core.List.{List, [], _∷_}
-use Prim.Native.Nat.{ℕ, zero, suc, _+_, _<_}
+use Prim.Native.Nat.{ℕ, zero, suc, _+_, _*_, _≤_, _<_}
 use lib.ListN.{length}
 use Rattle.index.specs.declared.Answer.{Answer}
 use Rattle.index.specs.declared.Answer.the-variants.{Done, Faulty}
 use Rattle.index.specs.declared.Fault.{Fault}
 use Rattle.index.specs.declared.Job.{Job}
-use Rattle.rules.specs.Word.{digit, pick}
+use Rattle.rules.specs.Word.{digit, pick, wordAt}
 use Rattle.rules.specs.Faults.{Verdict, faulty}
+use Rattle.rules.specs.Layout.{Bitmap, widthOf, cell, bitOf}
 use Rattle.index.specs.Types.{Chunk, Scan, Settle, Level}
-use Rattle.index.specs.Checks.{chunkAt, refusal}
+use Rattle.index.specs.Checks.{chunkAt, isLast, spanOf, refusal}
 use Rattle.index.specs.Answers.{faultNumber, faultPlace}
 use Rattle.index.specs.Numbers.{Refuses}
 use Rattle.index.specs.Opening.{opening, opened}
@@ -64,6 +65,17 @@ pub record Reached (text : List ℕ) (levels : ℕ) (h : Held) : Type 0 where
 -- a fault that a call names, as the rules name it: its number and its place
 unfoldable pub verdictOf : Fault → Verdict
 verdictOf f = faulty (faultNumber f) (faultPlace f)
+
+-- a place of chunk k: one of its bytes' places, and for the last chunk the end of the record, of n bytes, too
+pub data LiesIn (j : Job) (n k p : ℕ) : Type 0 where
+  among : 64 * spanOf j n k .from ≤ p → p < 64 * spanOf j n k .to → LiesIn j n k p
+  at-end : isLast j k ≡ true → p ≡ n → LiesIn j n k p
+
+-- the words that chunk k has of a bitmap are those of the rules
+abbrev pub Right : List ℕ → ℕ → Held → ℕ → Bitmap → Type 0
+Right text levels h k b =
+    (w : ℕ) → spanOf (h .job) (length text) k .from ≤ w → w < spanOf (h .job) (length text) k .to
+    → cell (h .words) levels (widthOf (length text)) b w ≡ wordAt (bitOf text b) w
 
 -- an answer of close that ends the job
 pub data Ends : Answer → Type 0 where

@@ -49,17 +49,17 @@ module _ (text words cuts : List ℕ) where
   -- ---- the line after the job, by its answer
 
   module _ (path : List ℕ) (l : Line) where
-    pub line-done : jobAnswer text words cuts ≡ Done → {after : List ℕ} → after ≡ jobWords text words cuts → l ≡ queryLine (answerOf text after 4 path)
+    pub after-done : jobAnswer text words cuts ≡ Done → {after : List ℕ} → after ≡ jobWords text words cuts → l ≡ queryLine (answerOf text after 4 path)
         → l ≡ lineIn text words cuts path
     unfolding lineIn
-    line-done e f g = rw (e, ← f) g
+    after-done e f g = rw (e, ← f) g
 
-    pub line-refused : {r : Refusal} → jobAnswer text words cuts ≡ Refused r → {n p : ℕ} → n ≡ refusalNumber r → p ≡ refusalPlace r → l ≡ placed n p
+    pub after-refused : {r : Refusal} → jobAnswer text words cuts ≡ Refused r → {n p : ℕ} → n ≡ refusalNumber r → p ≡ refusalPlace r → l ≡ placed n p
         → l ≡ lineIn text words cuts path
     unfolding lineIn
-    line-refused e f g h = rw e (h ∙ rw (f, g))
+    after-refused e f g h = rw e (h ∙ rw (f, g))
 
-    pub line-faulty : {f : Fault} → jobAnswer text words cuts ≡ Faulty f → {n p : ℕ} → n ≡ faultNumber f → p ≡ faultPlace f → l ≡ placed n p
+    pub after-faulty : {f : Fault} → jobAnswer text words cuts ≡ Faulty f → {n p : ℕ} → n ≡ faultNumber f → p ≡ faultPlace f → l ≡ placed n p
         → l ≡ lineIn text words cuts path
     unfolding lineIn
-    line-faulty e f g h = rw e (h ∙ rw (f, g))
+    after-faulty e f g h = rw e (h ∙ rw (f, g))

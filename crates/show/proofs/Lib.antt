@@ -4,3 +4,5 @@ pub mod Jobs
 pub mod Telling
 pub mod Inputs
 pub mod Enough
+pub mod Whole
+pub mod Results

@@ -1,6 +1,6 @@
 -- The job's answer chooses the line.
 use mathlib.Core.Path.{sym, _∙_}
-use Rattle.show.proofs.Jobs.{line-done, line-refused, line-faulty}
+use Rattle.show.proofs.Jobs.{after-done, after-refused, after-faulty}
 use borrow.Author.Needs.{needs}
 use Rattle.show.proofs.lines.line_in.Statement.{statement}
 use Rattle.show.proofs.lines.line_in.Tie as tie
@@ -45,7 +45,7 @@ returns : tie.Need-returns
 returns c =
     let a = c .before .before .before .before .before .before .before .before .before .before .before .before .args in
     let j = c .before .before .before .before .before .before .run-job .ensures in
-    line-done (a .text .now) (a .words .now) (a .cuts .now) (a .path .now) (c .query-line .result) (sym (j .0) ∙ c .before .before .enum-told .given .1) (j .1) (c .query-line .ensures)
+    after-done (a .text .now) (a .words .now) (a .cuts .now) (a .path .now) (c .query-line .result) (sym (j .0) ∙ c .before .before .enum-told .given .1) (j .1) (c .query-line .ensures)
 
 same-length-2 : tie.Need-same-length-2
 same-length-2 c = search needs
@@ -53,7 +53,7 @@ same-length-2 c = search needs
 returns-2 : tie.Need-returns-2
 returns-2 c =
     let a = c .before .before .before .before .before .before .before .before .before .before .before .before .before .before .args in
-    line-refused (a .text .now) (a .words .now) (a .cuts .now) (a .path .now) (c .placed .result) (sym (c .before .before .before .before .before .before .before .before .run-job .ensures .0) ∙ c .before .before .before .before .answer .given .1)
+    after-refused (a .text .now) (a .words .now) (a .cuts .now) (a .path .now) (c .placed .result) (sym (c .before .before .before .before .before .before .before .before .run-job .ensures .0) ∙ c .before .before .before .before .answer .given .1)
     (c .before .before .refusal-number .ensures) (c .before .refusal-place .ensures) (c .placed .ensures)
 
 same-length-3 : tie.Need-same-length-3
@@ -62,7 +62,7 @@ same-length-3 c = search needs
 returns-3 : tie.Need-returns-3
 returns-3 c =
     let a = c .before .before .before .before .before .before .before .before .before .before .before .before .before .before .args in
-    line-faulty (a .text .now) (a .words .now) (a .cuts .now) (a .path .now) (c .placed2 .result) (sym (c .before .before .before .before .before .before .before .before .run-job .ensures .0) ∙ c .before .before .before .before .answer2 .given .1)
+    after-faulty (a .text .now) (a .words .now) (a .cuts .now) (a .path .now) (c .placed2 .result) (sym (c .before .before .before .before .before .before .before .before .run-job .ensures .0) ∙ c .before .before .before .before .answer2 .given .1)
     (c .before .before .fault-number .ensures) (c .before .fault-place .ensures) (c .placed2 .ensures)
 
 pub line-in-spec : {M : Type 1} → statement M

@@ -1,0 +1,74 @@
+-- What the showing program prints, by the record: a fault's number and place whatever the path, and over a sound record what the query answers
+-- over the index.
+use Prim.Native.Nat.{ℕ, zero, suc, _+_, _*_, _-_, _/_, _≤_, _<_}
+use mathlib.Core.Path.{_≡_, refl, sym, ap, _∙_}
+use mathlib.Core.Bool.{Bool, false}
+use mathlib.Core.List.{List}
+use native.Mathlib.Omega.{arith}
+use lib.ListN.{length, getD}
+use Rattle.rules.specs.Faults.{sound, faulty, faultOf}
+use Rattle.rules.specs.Layout.{sizeOf, index}
+use Rattle.rules.proofs.LayoutLaws.{getD-listed}
+use Rattle.index.specs.declared.Answer.the-variants.{Done}
+use Rattle.index.specs.Opening.{badCut, first, firstBad, opening}
+use Rattle.index.proofs.OpenLaws.{cutBefore, good-cut, if-opened}
+use Rattle.query.specs.Answers.{answerOf}
+use Rattle.runs.proofs.Theorems.{sound-closes, faulty-closes}
+use Rattle.show.specs.Running.{multiples, cutsOf}
+use Rattle.show.specs.Lines.{lineEnd, pathOf, recordOf, placed, queryLine, lineIn, zeros, lineOf, shown}
+use Rattle.show.proofs.Inputs.{multiples-long, zeros-long, both}
+use Rattle.show.proofs.Whole.{job-run}
+
+-- ---- the cuts and words that are lent open a job
+
+first-none : (p : ℕ → Bool) (m i : ℕ) → ((e : ℕ) → i ≤ e → e < i + m → p e ≡ false) → first p i m ≡ i + m
+unfolding first
+first-none p zero i h = omega arith
+first-none p (suc m) i h = rw (h i (omega arith) (omega arith)) (first-none p m (suc i) (λ e a b. h e (omega arith) (omega arith)) ∙ omega arith)
+
+multiple-at : (m i : ℕ) → i < m → getD (multiples m) i 0 ≡ 1024 * (1 + i)
+unfolding multiples
+multiple-at m i l = getD-listed (λ x. 1024 * x) 1 m i l
+
+before-at : (m i : ℕ) → i < m → cutBefore (multiples m) i ≡ 1024 * i
+before-at m zero l = refl
+before-at m (suc i) l = multiple-at m i (omega arith) ∙ ap (λ (x : ℕ). 1024 * x) (omega arith)
+
+lawful-cut : (n i : ℕ) → i < (n - 1) / 1024 → badCut n (multiples ((n - 1) / 1024)) i ≡ false
+lawful-cut n i l =
+    let m = (n - 1) / 1024 in
+    let at = multiple-at m i l in
+    good-cut n (multiples m) i (omega (arith, at)) (omega (arith, at)) (omega (arith, at, before-at m i l))
+
+pub opens : (n : ℕ) → 1 ≤ n → n ≤ 16384 → opening n (length (zeros (sizeOf 4 n))) 4 (cutsOf n) ≡ Done
+unfolding cutsOf firstBad
+opens n some few =
+    let m = (n - 1) / 1024 in
+    let long = multiples-long m in
+    if-opened n (length (zeros (sizeOf 4 n))) 4 (multiples m) (λ e. omega (arith, some, e)) (omega (arith, few)) (λ e. omega (arith, e)) (omega arith) (zeros-long (sizeOf 4 n)) (omega (arith, long, few))
+    (omega (arith, first-none (badCut n (multiples m)) (length (multiples m)) 0 (λ e a b. lawful-cut n e (omega (arith, b, long)))))
+
+-- ---- the line of a record, and of an input
+
+module _ (text path : List ℕ) (some : 1 ≤ length text) (few : length text ≤ 16384) where
+  -- "a fault of the record is printed and not the path's refusal": its number, and its place twice
+  pub line-faulty : {n p : ℕ} → faultOf text ≡ faulty n p → lineOf text path ≡ placed n p
+  unfolding lineOf lineIn
+  line-faulty e =
+      let c = faulty-closes e (job-run text (zeros (sizeOf 4 (length text))) (cutsOf (length text)) (opens (length text) some few)) in
+      rw (c .1, c .2, c .3)
+
+  -- over a sound record the line is the query's, over the index
+  pub line-sound : faultOf text ≡ sound → lineOf text path ≡ queryLine (answerOf text (index text 4) 4 path)
+  unfolding lineOf lineIn
+  line-sound e =
+      let c = sound-closes e (job-run text (zeros (sizeOf 4 (length text))) (cutsOf (length text)) (opens (length text) some few)) in
+      rw (c .0, c .1)
+
+module _ (input : List ℕ) (short : lineEnd input ≤ 1024) (some : 1 ≤ length (recordOf input)) (few : length (recordOf input) ≤ 16384) where
+  -- the same of what is shown
+  pub shown-faulty : {n p : ℕ} → faultOf (recordOf input) ≡ faulty n p → shown input ≡ placed n p
+  shown-faulty e = sym (both input (lineEnd input) refl short few) ∙ line-faulty (recordOf input) (pathOf input) some few e
+
+  pub shown-sound : faultOf (recordOf input) ≡ sound → shown input ≡ queryLine (answerOf (recordOf input) (index (recordOf input) 4) 4 (pathOf input))
+  shown-sound e = sym (both input (lineEnd input) refl short few) ∙ line-sound (recordOf input) (pathOf input) some few e
