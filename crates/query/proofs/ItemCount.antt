@@ -1,6 +1,7 @@
 -- "Otherwise there is one item more than commas": a number has no item exactly where there are fewer commas. By the commas, from the left.
 use Prim.Native.Nat.{ℕ, zero, suc, _+_, _-_, _≤_, _<_}
 use mathlib.Core.Path.{_≡_, refl, ap, _∙_}
+use mathlib.Core.Logic.{_↔_}
 use mathlib.Core.Bool.{Bool, true, false}
 use native.Mathlib.Nat.{add-zero}
 use native.Mathlib.Omega.{arith}
@@ -10,7 +11,6 @@ use Rattle.rules.specs.Word.{pick, digit, count}
 use Rattle.rules.proofs.Counting.{count-cat}
 use Rattle.paths.specs.Places.{firstAt}
 use Rattle.query.specs.Items.{trimStart, trimEnd, valueAt, itemNo}
-use Rattle.query.specs.Conditions.{Exactly}
 use Rattle.query.specs.declared.items.Item.the-variants.{Found, Other, Broken}
 use Rattle.query.specs.declared.types.Cause.the-variants.{EmptyValue}
 use Rattle.paths.proofs.PlaceLaws.{first-ge, first-le, first-hit, first-miss}
@@ -31,7 +31,7 @@ value-not-other byte a e = go (ltb (trimStart byte a e) (trimEnd byte a e))
     go false q = let z : _≡_ {A = ℕ} 0 1 = cc in omega arith
 
 -- of the commas from a to e there are fewer than m
-pub no-item : (byte : ℕ → ℕ) (comma : ℕ → Bool) (m a e : ℕ) → a ≤ e → Exactly (itemNo byte comma m a e ≡ Other) (count comma e < count comma a + m)
+pub no-item : (byte : ℕ → ℕ) (comma : ℕ → Bool) (m a e : ℕ) → a ≤ e → (itemNo byte comma m a e ≡ Other) ↔ (count comma e < count comma a + m)
 unfolding itemNo count
 no-item byte comma zero a e h =
     let k : a + (e - a) ≡ e = omega arith in
@@ -53,8 +53,8 @@ no-item byte comma (suc m) a e h = go (ltb d e) refl (λ l. no-item byte comma m
           ap digit (same ∙ first-hit comma a e h l),
         )
 
-    go : (b : Bool) → ltb d e ≡ b → (d + 1 ≤ e → Exactly (itemNo byte comma m (d + 1) e ≡ Other) (count comma e < count comma (d + 1) + m))
-        → Exactly (pick b (itemNo byte comma m (d + 1) e) Other ≡ Other) (count comma e < count comma a + suc m)
+    go : (b : Bool) → ltb d e ≡ b → (d + 1 ≤ e → (itemNo byte comma m (d + 1) e ≡ Other) ↔ (count comma e < count comma (d + 1) + m))
+        → (pick b (itemNo byte comma m (d + 1) e) Other ≡ Other) ↔ (count comma e < count comma a + suc m)
     go true q ih =
         let l = ltb-true d e q in
         let x = ih (omega arith) in

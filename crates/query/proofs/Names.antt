@@ -1,6 +1,7 @@
 -- The bytes between two places, and their comparison, byte after byte.
 use Prim.Native.Nat.{ℕ, suc, _-_, _≤_, _<_}
 use mathlib.Core.Path.{_≡_, refl, ap, ap₂, _∙_}
+use mathlib.Core.Logic.{_↔_}
 use mathlib.Core.Bool.{Bool, true, false, _&&_, false≢true}
 use mathlib.Core.List.{List, [], _∷_}
 use native.Mathlib.Omega.{arith}
@@ -10,7 +11,6 @@ use borrow.Author.Tests.{eqb-true, eq-eqb, ne-eqb}
 use Rattle.rules.proofs.LayoutLaws.{length-listed}
 use Rattle.paths.specs.Places.{between}
 use Rattle.query.specs.Items.{same}
-use Rattle.query.specs.Conditions.{Exactly}
 use Rattle.paths.proofs.PlaceLaws.{between-none, between-some}
 use Rattle.paths.proofs.PathLaws.{both-true}
 
@@ -27,7 +27,7 @@ unfolding same
 same-self [] = refl
 same-self (x ∷ xs) = rw (eq-eqb x x refl) (same-self xs)
 
-pub same-exactly : (xs ys : List ℕ) → Exactly (same xs ys ≡ true) (xs ≡ ys)
+pub same-exactly : (xs ys : List ℕ) → (same xs ys ≡ true) ↔ (xs ≡ ys)
 same-exactly xs ys = (same-bytes xs ys, λ e. rw (← e) (same-self xs))
 
 and-false : (b : Bool) → (b && false) ≡ false

@@ -4,7 +4,7 @@ use Prim.Native.Nat.{ℕ, _≤_, _<_}
 use mathlib.Core.Path.{_≡_, refl, ap, _∙_, subst}
 use mathlib.Core.Bool.{Bool, true, false, not, _&&_}
 use mathlib.Core.List.{List}
-use mathlib.Core.Logic.{_⊎_, inl, inr, ⊎-elim}
+use mathlib.Core.Logic.{_⊎_, inl, inr, ⊎-elim, _↔_}
 use native.Mathlib.Omega.{arith}
 use lib.Dec.{eqb, ltb, leb}
 use lib.ListN.{length}
@@ -16,7 +16,7 @@ use Rattle.paths.specs.Path.{Reading, good, bad, readPath, large}
 use Rattle.query.specs.Items.{lent}
 use Rattle.query.specs.Walk.{walk}
 use Rattle.query.specs.Answers.{refusalNumber, numberOf, placeOf, afterReading, answerOf}
-use Rattle.query.specs.Conditions.{Exactly, Sized, Levelled, Lendable, Brief, Walkable, Given, empty, long, levels-out, other-buffer, long-path, no-path, large-number, deep, walked, Walks, Halts, WalkStops}
+use Rattle.query.specs.Conditions.{Sized, Levelled, Lendable, Brief, Walkable, Given, empty, long, levels-out, other-buffer, long-path, no-path, large-number, deep, walked, Walks, Halts, WalkStops}
 use Rattle.query.specs.declared.types.Cause.{Cause}
 use Rattle.query.specs.declared.types.Refusal.{Refusal}
 use Rattle.query.specs.declared.types.Refusal.the-variants.{EmptyRecord, LongRecord, BadLevels, BadBuffer, BadPath, TooLarge, TooDeep, NotObject, NotArray, NoName, NoNumber, Broken}
@@ -99,7 +99,7 @@ module _ (text words : List ℕ) (levels : ℕ) (path : List ℕ) where
   given-answer (walked {r} {ss} w e) = past-brief (w .brief) (reads (w .parsed)) ∙ rw (w .small, le-ltb levels (length ss) (w .few)) e
 
   -- a query gives an answer exactly where it is given
-  pub exactly : (r : Answer) → Exactly (answerOf text words levels path ≡ r) (Given text words levels path r)
+  pub exactly : (r : Answer) → (answerOf text words levels path ≡ r) ↔ (Given text words levels path r)
   exactly r = (λ e. subst (Given text words levels path) e answer-given, given-answer)
 
   -- ---- by number
@@ -159,27 +159,27 @@ module _ (text words : List ℕ) (levels : ℕ) (path : List ℕ) where
   halts-so {why} h = so (walked {r = Refused why} (h .walkable) (walk-stops text (lent words levels (widthOf (length text))) (h .selectors) why .1 (h .stops)))
 
   -- done
-  pub number-0 : Exactly (numberOf (answerOf text words levels path) ≡ 0) ((s : ℕ) × (e : ℕ) × Walks text words levels path (Found s e))
+  pub number-0 : (numberOf (answerOf text words levels path) ≡ 0) ↔ ((s : ℕ) × (e : ℕ) × Walks text words levels path (Found s e))
   number-0 = (λ e. because e, λ h. so (walked {r = Found (h .0) (h .1)} (h .2 .walkable) (h .2 .gives)))
 
   -- "record empty"
-  pub number-1 : Exactly (numberOf (answerOf text words levels path) ≡ 1) (length text ≡ 0)
+  pub number-1 : (numberOf (answerOf text words levels path) ≡ 1) ↔ (length text ≡ 0)
   number-1 = (λ e. because e, λ h. so (empty h))
 
   -- "record above 16,777,216 bytes"
-  pub number-2 : Exactly (numberOf (answerOf text words levels path) ≡ 2) (16777216 < length text)
+  pub number-2 : (numberOf (answerOf text words levels path) ≡ 2) ↔ (16777216 < length text)
   number-2 = (λ e. because e, λ h. so (long h))
 
   -- "L not in 1..16"
-  pub number-3 : Exactly (numberOf (answerOf text words levels path) ≡ 3) (Sized text × ((levels ≡ 0) ⊎ (16 < levels)))
+  pub number-3 : (numberOf (answerOf text words levels path) ≡ 3) ↔ (Sized text × ((levels ≡ 0) ⊎ (16 < levels)))
   number-3 = (λ e. because e, λ h. so (levels-out (h .0) (h .1)))
 
   -- "word buffer not (2+2L)·W long"
-  pub number-4 : Exactly (numberOf (answerOf text words levels path) ≡ 4) (Levelled text levels × (length words ≡ sizeOf levels (length text) → ⊥))
+  pub number-4 : (numberOf (answerOf text words levels path) ≡ 4) ↔ (Levelled text levels × (length words ≡ sizeOf levels (length text) → ⊥))
   number-4 = (λ e. because e, λ h. so (other-buffer (h .0) (h .1)))
 
   -- "path not in the grammar"
-  pub number-20 : Exactly (numberOf (answerOf text words levels path) ≡ 20) ((p : ℕ) × Brief text words levels path × RefusedAt path p)
+  pub number-20 : (numberOf (answerOf text words levels path) ≡ 20) ↔ ((p : ℕ) × Brief text words levels path × RefusedAt path p)
   number-20 = (λ e. because e, λ h. so (no-path (h .1) (h .2)))
 
   -- with its place
@@ -187,28 +187,28 @@ module _ (text words : List ℕ) (levels : ℕ) (path : List ℕ) where
   place-20 p h n = ap placeOf (given-answer (no-path h n))
 
   -- "path above 1,024 bytes, or a number above 16,777,215"
-  pub number-21 : Exactly (numberOf (answerOf text words levels path) ≡ 21)
+  pub number-21 : (numberOf (answerOf text words levels path) ≡ 21) ↔
       ((Lendable text words levels × (1024 < length path)) ⊎ ((ss : List Selector) × Brief text words levels path × Path path ss × (large ss ≡ true)))
   number-21 = (λ e. because e, ⊎-elim (λ h. so (long-path (h .0) (h .1))) (λ h. so (large-number (h .1) (h .2) (h .3))))
 
   -- "more steps than L"
-  pub number-22 : Exactly (numberOf (answerOf text words levels path) ≡ 22) ((ss : List Selector) × Brief text words levels path × Path path ss × (large ss ≡ false) × (levels < length ss))
+  pub number-22 : (numberOf (answerOf text words levels path) ≡ 22) ↔ ((ss : List Selector) × Brief text words levels path × Path path ss × (large ss ≡ false) × (levels < length ss))
   number-22 = (λ e. because e, λ h. so (deep (h .1) (h .2) (h .3) (h .4)))
 
   -- "value is not an object / not an array"
-  pub number-23 : Exactly (numberOf (answerOf text words levels path) ≡ 23) (Halts text words levels path NotObject)
+  pub number-23 : (numberOf (answerOf text words levels path) ≡ 23) ↔ (Halts text words levels path NotObject)
   number-23 = (λ e. because e, λ h. halts-so h)
 
-  pub number-24 : Exactly (numberOf (answerOf text words levels path) ≡ 24) (Halts text words levels path NotArray)
+  pub number-24 : (numberOf (answerOf text words levels path) ≡ 24) ↔ (Halts text words levels path NotArray)
   number-24 = (λ e. because e, λ h. halts-so h)
 
   -- "no such name / no such number"
-  pub number-25 : Exactly (numberOf (answerOf text words levels path) ≡ 25) (Halts text words levels path NoName)
+  pub number-25 : (numberOf (answerOf text words levels path) ≡ 25) ↔ (Halts text words levels path NoName)
   number-25 = (λ e. because e, λ h. halts-so h)
 
-  pub number-26 : Exactly (numberOf (answerOf text words levels path) ≡ 26) (Halts text words levels path NoNumber)
+  pub number-26 : (numberOf (answerOf text words levels path) ≡ 26) ↔ (Halts text words levels path NoNumber)
   number-26 = (λ e. because e, λ h. halts-so h)
 
   -- "broken item", whatever its cause
-  pub number-27 : Exactly (numberOf (answerOf text words levels path) ≡ 27) ((why : Cause) × Halts text words levels path (Broken why))
+  pub number-27 : (numberOf (answerOf text words levels path) ≡ 27) ↔ ((why : Cause) × Halts text words levels path (Broken why))
   number-27 = (λ e. because e, λ h. halts-so (h .1))

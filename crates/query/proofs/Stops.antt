@@ -3,7 +3,7 @@ use Prim.Native.Nat.{ℕ, _+_, _-_, _≤_}
 use mathlib.Core.Path.{_≡_, refl, ap, _∙_}
 use mathlib.Core.Bool.{Bool, true, false}
 use mathlib.Core.List.{List, [], _∷_}
-use mathlib.Core.Logic.{_⊎_, inl, inr, ⊎-elim}
+use mathlib.Core.Logic.{_⊎_, inl, inr, ⊎-elim, _↔_}
 use native.Mathlib.Omega.{arith}
 use lib.Dec.{ltb}
 use lib.ListN.{length}
@@ -13,7 +13,7 @@ use Rattle.paths.specs.Grammar.{Selector, name, number}
 use Rattle.query.specs.Items.{Bits, trimStart, trimEnd, valueAt, itemAt, items, itemNo}
 use Rattle.query.specs.Walk.{onFound, ofItem, framed, filled, nameStep, numberStep, stepBy, walkFrom, walk}
 use Rattle.query.specs.Answers.{refusalNumber}
-use Rattle.query.specs.Conditions.{Exactly, Stops, not-object, not-array, no-member, no-name, no-element, no-number, broken-member, broken-element, StopsFrom, here, later, WalkStops, blank, within}
+use Rattle.query.specs.Conditions.{Stops, not-object, not-array, no-member, no-name, no-element, no-number, broken-member, broken-element, StopsFrom, here, later, WalkStops, blank, within}
 use Rattle.query.specs.declared.items.Item.{Item}
 use Rattle.query.specs.declared.items.Item.the-variants as Items
 use Rattle.query.specs.declared.types.Cause.the-variants.{EmptyValue}
@@ -59,7 +59,7 @@ module _ (byte : ℕ → ℕ) (bits : Bits) where
   stops-step (broken-element f g h) = rw (f, g, h)
 
   -- 23 to 27 of a step
-  pub step-stops : (k : ℕ) (s : Selector) (a e : ℕ) (why : Refusal) → Exactly (stepBy byte bits k s a e ≡ Refused why) (Stops byte bits k s a e why)
+  pub step-stops : (k : ℕ) (s : Selector) (a e : ℕ) (why : Refusal) → (stepBy byte bits k s a e ≡ Refused why) ↔ (Stops byte bits k s a e why)
   step-stops k (name n) a e why = (name-stops k n a e why, λ h. stops-step h)
   step-stops k (number m) a e why = (number-stops k m a e why, λ h. stops-step h)
 
@@ -108,7 +108,7 @@ walk-back (blank h) = rw h
 walk-back {text} {bits} (within h l) = rw h (stops-from (byteIn text) bits l)
 
 -- 23 to 27 of a walk
-pub walk-stops : (text : List ℕ) (bits : Bits) (ss : List Selector) (why : Refusal) → Exactly (walk text bits ss ≡ Refused why) (WalkStops text bits ss why)
+pub walk-stops : (text : List ℕ) (bits : Bits) (ss : List Selector) (why : Refusal) → (walk text bits ss ≡ Refused why) ↔ (WalkStops text bits ss why)
 unfolding walk
 walk-stops text bits ss why =
     (λ q. ⊎-elim (λ h. within h (from-stops (byteIn text) bits 1 ss _ _ why (rw h at q))) (λ h. empty h (rw h at q)) (value-is (byteIn text) 0 (length text)), λ h. walk-back h)

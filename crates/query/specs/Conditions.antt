@@ -19,10 +19,6 @@ use Rattle.query.specs.declared.types.Refusal.the-variants.{EmptyRecord,
 use Rattle.query.specs.declared.types.Answer.{Answer}
 use Rattle.query.specs.declared.types.Answer.the-variants.{Found, Refused}
 
--- the one where the other, and only there
-abbrev pub Exactly : Type 0 → Type 0 → Type 0
-Exactly P Q = (P → Q) × (Q → P)
-
 -- ---- the checks, in their order
 
 -- 1 and 2 are passed
