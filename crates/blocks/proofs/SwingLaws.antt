@@ -9,6 +9,7 @@ use lib.Bits.{bitOr}
 use Rattle.rules.specs.Word.{count, bit}
 use Rattle.rules.proofs.Counting.{count-le, count-ext}
 use Rattle.rules.proofs.WordLaws.{or-word, bit-of}
+use Rattle.rules.proofs.Booleans.{impossible}
 use Rattle.blocks.specs.Swinging.{dip, peak, swing, past, Brackets, Small}
 use Rattle.blocks.specs.declared.swing.Swing.{Swing}
 
@@ -78,11 +79,11 @@ small-past false h s = record { ups = omega (arith, s .ups); downs = omega (arit
 -- ---- the brackets of a word
 
 pub or-none : (a b : Bool) → (a || b) ≡ false → (a ≡ false) × (b ≡ false)
-or-none true b e = let z : _≡_ {A = ℕ} 0 1 = cc in absurd (omega arith)
+or-none true b e = impossible (cc)
 or-none false b e = (refl, e)
 
 pub or-other : (a b : Bool) → a ≡ false → (a || b) ≡ true → b ≡ true
-or-other true b e f = let z : _≡_ {A = ℕ} 0 1 = cc in absurd (omega arith)
+or-other true b e f = impossible (cc)
 or-other false b e f = f
 
 module _ {o c : ℕ → Bool} {i opens closes : ℕ} (b : Brackets o c i opens closes) where

@@ -54,6 +54,13 @@ pub fn live(left: usize) -> u64
     }
 }
 
+// One of the two and not both.
+pub fn differs(a: bool, b: bool) -> bool
+    ensures { λ r. ⌜ r ≡ xor a b ⌝ }
+{
+    if a { !b } else { b }
+}
+
 // All 64 bits alike.
 pub fn alike(b: bool) -> u64
     ensures { λ r. ⌜ r ≡ word 64 (λ i. b) ⌝ }

@@ -2,3 +2,4 @@ pub mod Writing
 pub mod Sweeping
 pub mod Flipping
 pub mod Levels
+pub mod Storing

@@ -1,12 +1,10 @@
 // Level: the colons and commas of a chunk, level by level.
 ghost use mathlib.Core.Path.{_≡_};
-ghost use Prim.Native.Nat.{ℕ, suc, _+_, _*_, _≤_, _<_};
-ghost use lib.ListN.{length, getD};
-ghost use lib.Bits.{bitAnd};
-ghost use Rattle.rules.specs.Layout.{Bitmap, colons, commas};
-ghost use Rattle.rules.proofs.LayoutLaws.{Cells};
-ghost use Rattle.chunks.specs.Writing.{over, levelsTill, Lent};
+ghost use Prim.Native.Nat.{_+_, _*_, _≤_, _<_};
+ghost use lib.ListN.{length};
+ghost use Rattle.chunks.specs.Writing.{Lent};
 ghost use Rattle.chunks.specs.Levels.{levelWords};
+ghost use Rattle.chunks.specs.Storing.{StoredAt};
 use blocks::block::block;
 use blocks::block::table;
 use blocks::spread::spread_word;
@@ -26,7 +24,7 @@ fn store(
     comma: u64,
 )
     requires { ⌜ (levels ≤ 16) × (width ≤ 262144) × (w < width) × (length (now words) ≡ (2 + 2 * levels) * width) ⌝ }
-    ensures { λ _. ⌜ ((from : ℕ) (f old : Bitmap → ℕ → ℕ) → from ≤ w → ((k : ℕ) → k < levels → (bitAnd colon (getD (now (slots .entry)) (k + 1) 0) ≡ f (colons (suc k)) w) × (bitAnd comma (getD (now (slots .entry)) (k + 1) 0) ≡ f (commas (suc k)) w)) → Cells levels width (now (words .entry)) (over (levelsTill w) from f old) → Cells levels width (now (words .exit)) (over (levelsTill (suc w)) from f old)) ⌝ }
+    ensures { λ _. ⌜ StoredAt levels width w (now (slots .entry)) colon comma (now (words .entry)) (now (words .exit)) ⌝ }
 {
     let mut k: usize = 0;
     while k < levels {

@@ -11,6 +11,7 @@ use lib.ListN.{length, getD}
 use types.Run.{OneOf, miss}
 use denote.Enum.Declared.{tagOf}
 use Rattle.rules.specs.Word.{pick}
+use Rattle.rules.proofs.Booleans.{impossible}
 use Rattle.index.specs.declared.Fault.{Fault}
 use Rattle.index.specs.declared.Fault.the-variants.{Closer, Opener, InString, InBracket}
 use Rattle.index.specs.declared.Refusal.{Refusal}
@@ -97,11 +98,11 @@ then-checked (c ∷ later) a = go (c .0) (then-checked later a)
 
 -- no check answers a fault
 pub never-faulty : (checks : List Check) (f : Fault) → checked checks Done ≡ Faulty f → ⊥
-never-faulty [] f e = let z : _≡_ {A = ℕ} 0 1 = cc in omega arith
+never-faulty [] f e = impossible (cc)
 never-faulty (c ∷ later) f e = go (c .0) (never-faulty later f) e
   where
     go : (b : Bool) → (checked later Done ≡ Faulty f → ⊥) → pick b (Refused (c .1)) (checked later Done) ≡ Faulty f → ⊥
-    go true n h = let z : _≡_ {A = ℕ} 0 1 = cc in omega arith
+    go true n h = impossible (cc)
     go false n h = n h
 
 -- either no condition holds, or there is a first that does

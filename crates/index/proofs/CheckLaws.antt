@@ -8,6 +8,7 @@ use lib.Dec.{eqb, leb}
 use borrow.Author.Tests.{eqb-true, leb-true, leb-false, eq-eqb, le-leb, lt-leb, not-false}
 use Rattle.rules.specs.Word.{pick}
 use Rattle.rules.specs.Layout.{widthOf, sizeOf}
+use Rattle.rules.proofs.Booleans.{impossible}
 use Rattle.index.specs.declared.Fault.{Fault}
 use Rattle.index.specs.declared.Refusal.{Refusal}
 use Rattle.index.specs.declared.Refusal.the-variants.{IsClosed, IsStopped, OtherLength, NoChunk, Taken, Early}
@@ -58,8 +59,8 @@ state-open s e = (rw e, rw e)
 
 pub is-open : (s : State) → isClosed s ≡ false → isStopped s ≡ false → s ≡ Open
 is-open Open a b = refl
-is-open (Stopped f) a b = let z : _≡_ {A = ℕ} 0 1 = cc in absurd (omega arith)
-is-open Closed a b = let z : _≡_ {A = ℕ} 0 1 = cc in absurd (omega arith)
+is-open (Stopped f) a b = impossible (cc)
+is-open Closed a b = impossible (cc)
 
 pub settled-before : (j : Job) (k : ℕ) → (k ≡ 0 → ⊥) → settledBefore j k ≡ chunkAt j (k - 1) .settled
 settled-before j zero h = absurd (h refl)
@@ -86,7 +87,7 @@ pub record Lengths (j : Job) (n w : ℕ) : Type 0 where
 
 and-true : (a b : Bool) → (a && b) ≡ true → (a ≡ true) × (b ≡ true)
 and-true true b h = (refl, h)
-and-true false b h = let z : _≡_ {A = ℕ} 0 1 = cc in absurd (omega arith)
+and-true false b h = impossible (cc)
 
 pub lengths : (j : Job) (n w : ℕ) → sameLengths j n w ≡ true → Lengths j n w
 unfolding sameLengths
@@ -145,7 +146,7 @@ pub record Accepted (s : Step) (j : Job) (n w k : ℕ) : Type 0 where
   pub in-time : ready s j k ≡ true
 
 pub not-refused : (b : Bool) (r : Refusal) (a : Answer) → pick b (Refused r) a ≡ Done → (b ≡ false) × (a ≡ Done)
-not-refused true r a h = let z : _≡_ {A = ℕ} 0 1 = cc in absurd (omega arith)
+not-refused true r a h = impossible (cc)
 not-refused false r a h = (refl, h)
 
 pub accepted : (s : Step) (j : Job) (n w k : ℕ) → refusal s j n w k ≡ Done → Accepted s j n w k

@@ -6,6 +6,7 @@ use Prim.Native.Nat.{ℕ, zero, suc, _+_, _<_}
 use native.Mathlib.Omega.{arith}
 use native.Mathlib.Numerals.{add-one}
 use lib.ListN.{length, replicate}
+use Rattle.rules.proofs.Booleans.{impossible}
 use Rattle.index.specs.declared.Fault.{Fault}
 use Rattle.index.specs.declared.Refusal.the-variants.{IsClosed, OtherLength, Early}
 use Rattle.index.specs.declared.Answer.{Answer}
@@ -41,10 +42,9 @@ module _ (p : ℕ → Bool) where
       go false a d e r = refl
       go true a false e r = refl
       go true a true e r =
-          let l : i < m = at-m (λ q. let z : _≡_ {A = ℕ} 0 1 = cc in omega arith) in
+          let l : i < m = at-m (λ q. impossible (cc)) in
           let f = r l h in
-          let z : _≡_ {A = ℕ} 0 1 = cc in
-          absurd (omega arith)
+          impossible (cc)
 
 -- ---- the answer
 

@@ -10,6 +10,7 @@ use lib.Dec.{T, ltb}
 use lib.ListN.{length, replicate}
 use borrow.Author.Tests.{ltb-true, ltb-false}
 use Rattle.rules.specs.Word.{pick}
+use Rattle.rules.proofs.Booleans.{impossible}
 use Rattle.index.specs.declared.Fault.{Fault}
 use Rattle.index.specs.declared.Refusal.{Refusal}
 use Rattle.index.specs.declared.Refusal.the-variants.{IsClosed, OtherLength, Early}
@@ -63,8 +64,7 @@ no-later : (n : ℕ) (cuts : List ℕ) (i : ℕ) → badCut n cuts i ≡ true �
 unfolding firstBad
 no-later n cuts i h l =
     let g = first-before (badCut n cuts) 0 (length cuts) i (omega arith) l in
-    let z : _≡_ {A = ℕ} 0 1 = cc in
-    omega arith
+    impossible (cc)
 
 -- the condition of 6: some cut is bad
 pub open-six : (n : ℕ) (cuts : List ℕ) → (ltb (firstBad n cuts) (length cuts) ≡ true) ↔ ((i : ℕ) × ((i < length cuts) × (badCut n cuts i ≡ true)))
@@ -111,7 +111,7 @@ found-other Nothing = done-other
 found-other (Here f) = fault-other f
 
 found-here : (x : Found) (f : Fault) → foundAnswer x ≡ Faulty f → x ≡ Here f
-found-here Nothing f e = let z : _≡_ {A = ℕ} 0 1 = cc in absurd (omega arith)
+found-here Nothing f e = impossible (cc)
 found-here (Here g) f e = cc
 
 unless-found : (a : Answer) (x : Found) → Refuses (onDone a (foundAnswer x) a) → Refuses a
@@ -140,7 +140,7 @@ module _ (j : Job) (text words : List ℕ) (k : ℕ) where
     where
       go : (a : Answer) (x : Found) → ((h : Fault) → a ≡ Faulty h → ⊥) → onDone a (foundAnswer x) a ≡ Faulty f → (a ≡ Done) × (x ≡ Here f)
       go Done x n e = (refl, found-here x f e)
-      go (Refused r) x n e = let z : _≡_ {A = ℕ} 0 1 = cc in absurd (omega arith)
+      go (Refused r) x n e = impossible (cc)
       go (Faulty h) x n e = absurd (n h refl)
 
   -- a refused step changes neither job nor words
@@ -217,9 +217,9 @@ module _ (j : Job) (n : ℕ) (words : List ℕ) where
   close-fault f = (λ h. go (way j n (length words)) h, λ h. stopped-fault j n (length words) f (h .0) (h .1))
     where
       go : Way j n (length words) → closing j n (length words) ≡ Faulty f → (j .state ≡ Stopped f) × (sameLengths j n (length words) ≡ true)
-      go (refuses r e p) h = let z : _≡_ {A = ℕ} 0 1 = cc in absurd (omega arith)
+      go (refuses r e p) h = impossible (cc)
       go (answers g e p) h = let q = stopped-fault j n (length words) g e p in (cc, p)
-      go (finishes e p q) h = let d = closing-done j n (length words) e p q in let z : _≡_ {A = ℕ} 0 1 = cc in absurd (omega arith)
+      go (finishes e p q) h = let d = closing-done j n (length words) e p q in impossible (cc)
 
   -- and 0 exactly by that of an open job whose chunks are all levelled
   pub close-done : (closed j n (length words) .answer ≡ Done) ↔ ((j .state ≡ Open) × ((sameLengths j n (length words) ≡ true) × (allLevelled j ≡ true)))
@@ -227,8 +227,8 @@ module _ (j : Job) (n : ℕ) (words : List ℕ) where
   close-done = (λ h. go (way j n (length words)) h, λ h. closing-done j n (length words) (h .0) (h .1 .0) (h .1 .1))
     where
       go : Way j n (length words) → closing j n (length words) ≡ Done → (j .state ≡ Open) × ((sameLengths j n (length words) ≡ true) × (allLevelled j ≡ true))
-      go (refuses r e p) h = let z : _≡_ {A = ℕ} 0 1 = cc in absurd (omega arith)
-      go (answers g e p) h = let q = stopped-fault j n (length words) g e p in let z : _≡_ {A = ℕ} 0 1 = cc in absurd (omega arith)
+      go (refuses r e p) h = impossible (cc)
+      go (answers g e p) h = let q = stopped-fault j n (length words) g e p in impossible (cc)
       go (finishes e p q) h = (e, (p, q))
 
   -- all words are 0 where a fault is answered again, and as they were everywhere else

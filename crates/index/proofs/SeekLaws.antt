@@ -8,6 +8,7 @@ use borrow.Author.Tests.{eq-eqb, ne-eqb}
 use lib.Bits.{bitOr}
 use lib.Dec.{eqb}
 use Rattle.rules.specs.Word.{pick, bit}
+use Rattle.rules.proofs.Booleans.{impossible}
 use Rattle.index.specs.declared.Fault.{Fault}
 use Rattle.index.specs.declared.settling.Sought.{Sought}
 use Rattle.index.specs.declared.settling.Sought.the-variants.{On, At}
@@ -72,7 +73,7 @@ module _ (o c : ℕ → Bool) where
 
       go : (a b : Bool) → (seek o c d (suc i) m ≡ On e → e ≤ d + m) → (seek o c (depthPast (o i) d) (suc i) m ≡ On e → e ≤ depthPast (o i) d + m) → depthPast (o i) d ≤ d + 1
           → pick a (pick b (At (faultOfBracket (o i) i)) (seek o c (depthPast (o i) d) (suc i) m)) (seek o c d (suc i) m) ≡ On e → e ≤ d + suc m
-      go true true f g h q = let z : _≡_ {A = ℕ} 0 1 = cc in absurd (omega arith)
+      go true true f g h q = impossible (cc)
       go true false f g h q = omega (arith, g q)
       go false b f g h q = omega (arith, f q)
 

@@ -16,7 +16,7 @@ use Rattle.index.specs.declared.settling.Found.{Found}
 use Rattle.index.specs.declared.settling.Found.the-variants.{Nothing, Here}
 use Rattle.index.specs.Checks.{chunkAt}
 use Rattle.index.specs.Depth.{clampDepth}
-use Rattle.index.specs.Settling.{insideOf, startOf, ofSought, announced, seekIn, soughtFault, endFault, orElse, chunkFault}
+use Rattle.index.specs.Settling.{insideOf, startDepth, ofSought, announced, seekIn, soughtFault, endFault, orFound, chunkFault}
 
 -- ---- the state at the border
 
@@ -30,12 +30,12 @@ module _ (j : Job) where
   inside-next zero n = absurd (n refl)
   inside-next (suc k) n = let e : suc k - 1 ≡ k = omega arith in rw e
 
-  pub start-first : (k : ℕ) → k ≡ 0 → startOf j k ≡ 0
-  unfolding startOf
+  pub start-first : (k : ℕ) → k ≡ 0 → startDepth j k ≡ 0
+  unfolding startDepth
   start-first k e = rw e
 
-  pub start-next : (k : ℕ) → (k ≡ 0 → ⊥) → startOf j k ≡ clampDepth (pos (chunkAt j (k - 1) .start) +ℤ chunkAt j (k - 1) .kept .net)
-  unfolding startOf
+  pub start-next : (k : ℕ) → (k ≡ 0 → ⊥) → startDepth j k ≡ clampDepth (pos (chunkAt j (k - 1) .start) +ℤ chunkAt j (k - 1) .kept .net)
+  unfolding startDepth
   start-next zero n = absurd (n refl)
   start-next (suc k) n = let e : suc k - 1 ≡ k = omega arith in rw e
 
@@ -65,6 +65,6 @@ module _ (c : Chunk) (text words : List ℕ) (levels : ℕ) (s : Span) where
   is-announced e = rw e
 
   module _ (last : Bool) where
-    pub fault-sought : (f : Found) → soughtFault c text words levels s ≡ f → chunkFault c text words levels s last ≡ orElse f (pick last (endFault c (length text)) Nothing)
+    pub fault-sought : (f : Found) → soughtFault c text words levels s ≡ f → chunkFault c text words levels s last ≡ orFound f (pick last (endFault c (length text)) Nothing)
     unfolding chunkFault
-    fault-sought f e = ap (λ (x : Found). orElse x (pick last (endFault c (length text)) Nothing)) e
+    fault-sought f e = ap (λ (x : Found). orFound x (pick last (endFault c (length text)) Nothing)) e

@@ -10,6 +10,7 @@ use lib.Signed.{mag, ltZ, nonNeg}
 use mir.Syntax.{w32, w64}
 use mir.Val.{SFits, Fits, toZ, ofZ}
 use mir.ValLaws.{toZ-ofZ, toZ-pos}
+use Rattle.rules.proofs.Booleans.{impossible}
 use Rattle.index.specs.Depth.{clampDepth, belowZero, above64}
 
 mag-sub : (a b : ℕ) → mag (subℕ a (suc b)) ≤ a + b + 1
@@ -74,15 +75,15 @@ clamp-low (negsuc n) e = refl
 
 pub clamp-high : (z : ℤ) → ltZ (pos 64) z ≡ true → 64 ≡ clampDepth z
 clamp-high (pos n) e = let h = ltb-true 64 n e in omega arith
-clamp-high (negsuc n) e = let h : _≡_ {A = ℕ} 0 1 = cc in omega arith
+clamp-high (negsuc n) e = impossible (cc)
 
 pub clamp-in : (z : ℤ) → ltZ z (pos 0) ≡ false → ltZ (pos 64) z ≡ false → natAbs z ≡ clampDepth z
 clamp-in (pos n) a b = let h = ltb-false 64 n b in omega arith
-clamp-in (negsuc n) a b = let h : _≡_ {A = ℕ} 0 1 = cc in omega arith
+clamp-in (negsuc n) a b = impossible (cc)
 
 pub clamp-casts : (z : ℤ) → ltZ z (pos 0) ≡ false → ltZ (pos 64) z ≡ false → T (nonNeg z) × Fits w32 (natAbs z)
 clamp-casts (pos n) a b = (tt, record { fits = omega (arith, ltb-false 64 n b) })
-clamp-casts (negsuc n) a b = let h : _≡_ {A = ℕ} 0 1 = cc in absurd (omega arith)
+clamp-casts (negsuc n) a b = impossible (cc)
 
 pub below-is : (z : ℤ) → ltZ z (pos 0) ≡ belowZero z
 below-is (pos n) = go (ltb n 0) refl

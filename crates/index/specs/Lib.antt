@@ -10,3 +10,4 @@ pub mod Closing
 pub mod Numbers
 pub mod Types
 pub mod Frames
+pub mod Outcomes

@@ -60,9 +60,9 @@ unfoldable pub insideOf : Job → ℕ → Bool
 insideOf j zero = false
 insideOf j (suc k) = xor (chunkAt j k .inside) (chunkAt j k .kept .odd)
 
-unfoldable pub startOf : Job → ℕ → ℕ
-startOf j zero = 0
-startOf j (suc k) = clampDepth (pos (chunkAt j k .start) +ℤ chunkAt j k .kept .net)
+unfoldable pub startDepth : Job → ℕ → ℕ
+startDepth j zero = 0
+startDepth j (suc k) = clampDepth (pos (chunkAt j k .start) +ℤ chunkAt j k .kept .net)
 
 unfoldable pub guessWrong : Job → ℕ → Bool
 guessWrong j k = xor (chunkAt j k .inside) (insideOf j k)
@@ -83,7 +83,7 @@ settleKept j text words k =
 unfoldable pub settleChunk : Job → List ℕ → List ℕ → ℕ → Chunk
 settleChunk j text words k =
     let c = chunkAt j k in
-    record { cut = c .cut; scanned = c .scanned; settled = true; levelled = c .levelled; inside = insideOf j k; start = startOf j k; kept = settleKept j text words k }
+    record { cut = c .cut; scanned = c .scanned; settled = true; levelled = c .levelled; inside = insideOf j k; start = startDepth j k; kept = settleKept j text words k }
 
 -- ---- the fault of a settled chunk
 
@@ -102,12 +102,12 @@ soughtFault c text words levels s = pick (announced c) (ofSought (seekIn text wo
 unfoldable pub endFault : Chunk → ℕ → Found
 endFault c n = pick (xor (c .inside) (c .kept .odd)) (Here (InString n)) (pick (ltb 0 (clampDepth (pos (c .start) +ℤ c .kept .net))) (Here (InBracket n)) Nothing)
 
-abbrev pub orElse : Found → Found → Found
-orElse Nothing other = other
-orElse (Here f) other = Here f
+abbrev pub orFound : Found → Found → Found
+orFound Nothing other = other
+orFound (Here f) other = Here f
 
 unfoldable pub chunkFault : Chunk → List ℕ → List ℕ → ℕ → Span → Bool → Found
-chunkFault c text words levels s last = orElse (soughtFault c text words levels s) (pick last (endFault c (length text)) Nothing)
+chunkFault c text words levels s last = orFound (soughtFault c text words levels s) (pick last (endFault c (length text)) Nothing)
 
 -- "If the record has a fault here, the job stops with it"
 abbrev pub foundAnswer : Found → Answer

@@ -1,7 +1,8 @@
 // What every step checks, where a chunk lies, and what asking tells.
 ghost use mathlib.Core.Path.{_≡_};
 ghost use Prim.Native.Nat.{_≤_, _<_};
-ghost use Rattle.index.specs.Checks.{chunksOf, withChunk, withState, firstWord, isLast, spanOf, asked, sameLengths, taken, ready, refusal};
+ghost use Rattle.index.specs.Checks.{chunksOf, withChunk, withState, firstWord, isLast, spanOf, sameLengths, taken, ready, refusal};
+ghost use Rattle.index.specs.Outcomes.{AskGives};
 use crate::Answer;
 use crate::Asked;
 use crate::Chunk;
@@ -41,7 +42,7 @@ impl Job {
     }
 
     pub fn ask(self, k: usize) -> Asked
-        ensures { λ r. ⌜ r ≡ asked self k ⌝ }
+        ensures { λ r. ⌜ AskGives self k r ⌝ }
     {
         let m = self.chunks();
         if k < m {

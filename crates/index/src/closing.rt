@@ -1,7 +1,8 @@
 // Closing a job.
 ghost use mathlib.Core.Path.{_≡_};
 ghost use lib.ListN.{length, replicate};
-ghost use Rattle.index.specs.Closing.{allLevelled, closing, closed, closedWords};
+ghost use Rattle.index.specs.Closing.{allLevelled, closing};
+ghost use Rattle.index.specs.Outcomes.{CloseGives};
 use crate::Answer;
 use crate::Handed;
 use crate::Job;
@@ -62,8 +63,7 @@ impl Job {
     }
 
     pub fn close(self, text: &[u8], words: &mut [u64]) -> Handed
-        ensures handed { λ r. ⌜ r ≡ closed self (length (now (text .entry))) (length (now (words .entry))) ⌝ }
-        ensures left { λ _. ⌜ now (words .exit) ≡ closedWords self (length (now (text .entry))) (now (words .entry)) ⌝ }
+        ensures { λ r. ⌜ CloseGives self (now (text .entry)) (now (words .entry)) r (now (words .exit)) ⌝ }
     {
         let a = self.close_answer(text.len(), words.len());
         match a {

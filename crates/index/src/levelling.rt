@@ -1,7 +1,5 @@
 // Level: a chunk's colons and commas written, and the step marked as had.
-ghost use mathlib.Core.Path.{_≡_};
-ghost use lib.ListN.{length};
-ghost use Rattle.index.specs.Levelling.{levelled, levelledWords};
+ghost use Rattle.index.specs.Outcomes.{LevelGives};
 use crate::Answer;
 use crate::Handed;
 use crate::Job;
@@ -10,8 +8,7 @@ use chunks::levelling::level_words;
 
 impl Job {
     pub fn level(self, text: &[u8], words: &mut [u64], k: usize) -> Handed
-        ensures handed { λ r. ⌜ r ≡ levelled self (length (now (text .entry))) (length (now (words .entry))) k ⌝ }
-        ensures left { λ _. ⌜ now (words .exit) ≡ levelledWords self (now (text .entry)) (now (words .entry)) k ⌝ }
+        ensures { λ r. ⌜ LevelGives self (now (text .entry)) (now (words .entry)) k r (now (words .exit)) ⌝ }
     {
         let a = self.refused(Step::Level, text.len(), words.len(), k);
         let Answer::Done = a else {

@@ -1,4 +1,5 @@
 // A structural index over a record in lent memory, made chunk by chunk. The face of the crate is `Job`, its operations, and what they answer.
+mod answers;
 mod checks;
 mod closing;
 mod depth;

@@ -3,7 +3,8 @@ ghost use mathlib.Core.Path.{_≡_};
 ghost use Prim.Native.Nat.{_≤_};
 ghost use lib.ListN.{length};
 ghost use Rattle.index.specs.Checks.{fresh};
-ghost use Rattle.index.specs.Opening.{firstBad, cutUpTo, noJob, opening, opened};
+ghost use Rattle.index.specs.Opening.{firstBad, cutUpTo, noJob, opening};
+ghost use Rattle.index.specs.Outcomes.{OpenGives};
 use crate::Answer;
 use crate::Chunk;
 use crate::Handed;
@@ -115,7 +116,7 @@ fn open_answer(n: usize, w: usize, levels: usize, cuts: &[usize]) -> Answer
 
 impl Job {
     pub fn open(text: &[u8], words: &[u64], levels: usize, cuts: &[usize]) -> Handed
-        ensures { λ r. ⌜ r ≡ opened (length (now (text .entry))) (length (now (words .entry))) levels (now (cuts .entry)) ⌝ }
+        ensures { λ r. ⌜ OpenGives (now (text .entry)) (now (words .entry)) levels (now (cuts .entry)) r ⌝ }
     {
         let n = text.len();
         let a = open_answer(n, words.len(), levels, cuts);

@@ -1,25 +1,19 @@
 // Scan: the quotes of a chunk, its mask under a guess, and how its brackets move the depth.
 ghost use mathlib.Core.Path.{_≡_};
 ghost use lib.ListN.{length};
-ghost use Rattle.rules.specs.Word.{xor};
 ghost use Rattle.index.specs.Checks.{spanOf};
 ghost use Rattle.chunks.specs.Sweeping.{scanWords};
 ghost use Rattle.index.specs.Stepping.{Fitting};
-ghost use Rattle.index.specs.Scanning.{scanChunk, scanned, scannedWords};
+ghost use Rattle.index.specs.Scanning.{scanChunk};
+ghost use Rattle.index.specs.Outcomes.{ScanGives};
 use crate::Answer;
 use crate::Chunk;
 use crate::Handed;
 use crate::Job;
 use crate::Step;
 use crate::depth::kept_of;
+use blocks::marks::differs;
 use chunks::scanning::scan_words;
-
-// One of the two and not both.
-pub fn differs(a: bool, b: bool) -> bool
-    ensures { λ r. ⌜ r ≡ xor a b ⌝ }
-{
-    if a { !b } else { b }
-}
 
 impl Job {
     // The chunk as scanned, its words written.
@@ -47,8 +41,7 @@ impl Job {
 
     // Scan, with a guess that the chunk begins inside a string or not.
     pub fn scan(self, text: &[u8], words: &mut [u64], k: usize, inside: bool) -> Handed
-        ensures handed { λ r. ⌜ r ≡ scanned self (now (text .entry)) (length (now (words .entry))) k inside ⌝ }
-        ensures left { λ _. ⌜ now (words .exit) ≡ scannedWords self (now (text .entry)) (now (words .entry)) k inside ⌝ }
+        ensures { λ r. ⌜ ScanGives self (now (text .entry)) (now (words .entry)) k inside r (now (words .exit)) ⌝ }
     {
         let a = self.refused(Step::Scan, text.len(), words.len(), k);
         let Answer::Done = a else {

@@ -5,7 +5,8 @@ ghost use Prim.Native.Nat.{ℕ, _+_, _*_, _≤_, _<_};
 ghost use lib.ListN.{length};
 ghost use Rattle.blocks.specs.Swinging.{Brackets};
 ghost use Rattle.chunks.specs.Writing.{Lent};
-ghost use Rattle.index.specs.Settling.{limitOf, faultOfBracket, depthPast, seek, seekIn, announced, soughtFault, endFault, chunkFault, insideOf, startOf, settleWords, settleKept, settleChunk, settled, settledWords};
+ghost use Rattle.index.specs.Settling.{limitOf, faultOfBracket, depthPast, seek, seekIn, announced, soughtFault, endFault, chunkFault, insideOf, startDepth, settleWords, settleKept, settleChunk};
+ghost use Rattle.index.specs.Outcomes.{SettleGives};
 ghost use Rattle.index.specs.Stepping.{Fitting};
 use crate::Answer;
 use crate::Chunk;
@@ -20,9 +21,9 @@ use crate::depth::climbs;
 use crate::depth::depth_after;
 use crate::depth::falls;
 use crate::depth::kept_of;
-use crate::scanning::differs;
 use blocks::block::block;
 use blocks::block::table;
+use blocks::marks::differs;
 use chunks::flipping::flip_words;
 use layout::Map;
 use layout::get_word;
@@ -186,9 +187,9 @@ impl Job {
         differs(c.inside, kept.odd)
     }
 
-    fn start_of(self, k: usize) -> u32
+    fn start_depth(self, k: usize) -> u32
         requires { ⌜ k < 64 ⌝ }
-        ensures { λ r. ⌜ r ≡ startOf self k ⌝ }
+        ensures { λ r. ⌜ r ≡ startDepth self k ⌝ }
     {
         if k == 0 {
             return 0;
@@ -221,7 +222,7 @@ impl Job {
     {
         let kept = self.settle_kept(text, words, k);
         let inside = self.inside_of(k);
-        let start = self.start_of(k);
+        let start = self.start_depth(k);
         let c = self.chunks[k];
         Chunk {
             cut: c.cut,
@@ -235,8 +236,7 @@ impl Job {
     }
 
     pub fn settle(self, text: &[u8], words: &mut [u64], k: usize) -> Handed
-        ensures handed { λ r. ⌜ r ≡ settled self (now (text .entry)) (now (words .entry)) k ⌝ }
-        ensures left { λ _. ⌜ now (words .exit) ≡ settledWords self (now (text .entry)) (now (words .entry)) k ⌝ }
+        ensures { λ r. ⌜ SettleGives self (now (text .entry)) (now (words .entry)) k r (now (words .exit)) ⌝ }
     {
         let a = self.refused(Step::Settle, text.len(), words.len(), k);
         let Answer::Done = a else {

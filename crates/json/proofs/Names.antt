@@ -13,7 +13,7 @@ use Rattle.paths.specs.Grammar.{Selector, name, number}
 use Rattle.query.specs.Items.{same}
 use Rattle.texts.specs.Grammar.{UTF8-char, Char, Chars}
 use Rattle.texts.specs.Nodes.{isHigh, characters, Json, scalar, array, object, Items, noItems, item, Fields, noFields, field}
-use Rattle.json.specs.Select.{keepIf, named, nth, children, Unescaped, Fresh, Fair, FairItems, FairFields}
+use Rattle.json.specs.Select.{keepIf, named, nth, children, NoEscape, Fresh, Fair, FairItems, FairFields}
 use Rattle.texts.proofs.Padded.{Bare, Entry, Entries, entryBytes, bareTree, padFields}
 
 same-true : (xs ys : List ℕ) → same xs ys ≡ true → xs ≡ ys
@@ -40,7 +40,7 @@ abbrev pub Ascii : List ℕ → Type 0
 Ascii [] = Unit {0}
 Ascii (b ∷ bs) = (b < 0x80) × Ascii bs
 
-unescaped-right : (xs ys : List ℕ) → Unescaped (xs ++ ys) → Unescaped ys
+unescaped-right : (xs ys : List ℕ) → NoEscape (xs ++ ys) → NoEscape ys
 unescaped-right [] ys h = h
 unescaped-right (x ∷ xs) ys h = unescaped-right xs ys (h .1)
 
@@ -66,12 +66,12 @@ utf8-unit (UTF8-char.utf8-4a i j k) = several (UTF8-char.utf8-4a i j k) (omega a
 utf8-unit (UTF8-char.utf8-4b i j k l) = several (UTF8-char.utf8-4b i j k l) (omega arith) (omega arith) (omega arith)
 utf8-unit (UTF8-char.utf8-4c i j k) = several (UTF8-char.utf8-4c i j k) (omega arith) (omega arith) (omega arith)
 
-char-unit : {b : List ℕ} {u : ℕ} (bs : List ℕ) → Char b u → Unescaped (b ++ bs) → UnitOf b u
+char-unit : {b : List ℕ} {u : ℕ} (bs : List ℕ) → Char b u → NoEscape (b ++ bs) → UnitOf b u
 char-unit bs (Char.unescaped c n) h = utf8-unit c
 char-unit bs (Char.short s) h = absurd (omega (arith, h .0))
 char-unit bs (Char.uXXXX i j k l) h = absurd (omega (arith, h .0))
 
-raw-same : {raw us : List ℕ} (n : List ℕ) → Chars raw us → Unescaped raw → Ascii n → same us n ≡ same raw n
+raw-same : {raw us : List ℕ} (n : List ℕ) → Chars raw us → NoEscape raw → Ascii n → same us n ≡ same raw n
 unfolding same
 raw-same n Chars.none h f = refl
 raw-same n (Chars.char {b} {bs} {us} {u} c cs) h f = one (char-unit bs c h) n f (λ m g. raw-same m cs (unescaped-right b bs h) g)
@@ -102,14 +102,14 @@ not-high {b} {u} x = go (isHigh u) refl
     go true e = let h = high-range u e in absurd (never x (h .0) (h .1))
     go false e = e
 
-unpaired : {raw us : List ℕ} → Chars raw us → Unescaped raw → characters us ≡ us
+unpaired : {raw us : List ℕ} → Chars raw us → NoEscape raw → characters us ≡ us
 unfolding characters
 unpaired Chars.none h = refl
 unpaired (Chars.char c Chars.none) h = refl
 unpaired (Chars.char {b} {bs} {us} {u} c (Chars.char {b = b′} {bs = bs′} {us = vs} {u = v} d cs)) h =
     rw (not-high (char-unit (b′ ++ bs′) c h)) (ap (λ (ws : List ℕ). u ∷ ws) (unpaired (Chars.char d cs) (unescaped-right b (b′ ++ bs′) h)))
 
-name-same : {raw us : List ℕ} (n : List ℕ) → Chars raw us → Unescaped raw → Ascii n → same (characters us) n ≡ same raw n
+name-same : {raw us : List ℕ} (n : List ℕ) → Chars raw us → NoEscape raw → Ascii n → same (characters us) n ≡ same raw n
 name-same n s h f = rw (unpaired s h) (raw-same n s h f)
 
 -- ---- what the walk takes: the first member whose bytes are those of the name

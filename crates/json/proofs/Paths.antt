@@ -28,12 +28,12 @@ use Rattle.query.proofs.Inside.{Within, WithinItem, value-in, step-in}
 use Rattle.texts.specs.Grammar.{Text}
 use Rattle.texts.specs.Nodes.{Json, valueOf, firstOf, bytesOf, deep}
 use Rattle.json.specs.Select.{children, flat, segments, select, Fair}
-use Rattle.json.specs.Demand2.{Obeys, root, Asked, Selects, Claim}
+use Rattle.json.specs.Demand2.{Obeys, root, AskedWith, Selects, Claim}
 use Rattle.texts.proofs.Padded.{Bare, Pad, bareBytes, padBytes, bareTree, padded, paddedText, text-same-bytes, text-same-tree}
 use Rattle.json.proofs.Trace.{at-start, Seg}
 use Rattle.json.proofs.Stretches.{seg-at, seg-self}
 use Rattle.json.proofs.Values.{value-ends, Good, Hit, pad-hit}
-use Rattle.json.proofs.Steps.{Outcome, step-right}
+use Rattle.json.proofs.Steps.{StepTaken, step-right}
 use Rattle.query.proofs.Agree.{walk-promised}
 use Rattle.json.proofs.Names.{Ascii, PlainName, rawChildren, children-same, AllFair, children-fair}
 use Rattle.json.proofs.Verdicts.{text-sound}
@@ -107,12 +107,12 @@ module _ (text : List ℕ) (kids : Selector → Json → List Json) (P : Json �
       go (rw (agree s a v (q .0) p) at (step-right text k s a v g)) (keeps s (bareTree a v) p) (step-in (byteIn text) (ruled text) (length text) (suc k) s a _ l)
       (λ a v p g l. walked ss (suc k) a v (q .1) p g l)
     where
-      go : {x : Answer} → Outcome text (suc k) (kids s (bareTree a v)) x → All P (kids s (bareTree a v)) → Within (length text) x
+      go : {x : Answer} → StepTaken text (suc k) (kids s (bareTree a v)) x → All P (kids s (bareTree a v)) → Within (length text) x
           → ((a : ℕ) (v : Bare) → P (bareTree a v) → Good text (suc k) a v → a + length (bareBytes v) ≤ length text
           → Selects text (along kids ss (bareTree a v ∷ [])) (walkFrom (byteIn text) (ruled text) (suc (suc k)) ss a (a + length (bareBytes v))))
           → Selects text (along kids ss (flat (kids s) (bareTree a v ∷ []))) (onFound x (λ b f. walkFrom (byteIn text) (ruled text) (suc k + 1) ss b f) Refused)
-      go (Outcome.miss why h e f) p i r = rw (e, f, along-none kids ss) (Selects.none {why = why} (omega (arith, h)))
-      go (Outcome.hit a v e f g) p i r =
+      go (StepTaken.miss why h e f) p i r = rw (e, f, along-none kids ss) (Selects.none {why = why} (omega (arith, h)))
+      go (StepTaken.hit a v e f g) p i r =
           let pa : P (bareTree a v) × Unit {0} = rw e at p in
           let fits : Within (length text) (Found a (a + length (bareBytes v))) = rw f at i in
           rw (e, f, append-nil, add-one) (r a v (pa .0) g (fits .1))
@@ -210,7 +210,7 @@ value-some text t = rw (← e) (some (paddedText (t .derivation)))
         let h = value-ends (bareBytes v) 0 v (seg-self (bareBytes v)) in
         omega (arith, length-append w (bareBytes v ++ w′), length-append (bareBytes v) w′, h .size)
 
-selected : (text words : List ℕ) (levels : ℕ) (path : List ℕ) (ss : List Selector) (t : Obeys text) → Asked text words levels path ss
+selected : (text words : List ℕ) (levels : ℕ) (path : List ℕ) (ss : List Selector) (t : Obeys text) → AskedWith text words levels path ss
     → Selects text (select ss (root t)) (answerOf text words levels path)
 unfolding answerOf
 selected text words levels path ss t x =

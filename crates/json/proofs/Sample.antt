@@ -17,7 +17,7 @@ use Rattle.query.specs.declared.types.Answer.{Answer}
 use Rattle.query.specs.declared.types.Answer.the-variants.{Found}
 use Rattle.json.proofs.Paths.{claim}
 use Rattle.texts.specs.Texts.{bytes}
-use Rattle.json.specs.Demand2.{Obeys, root, Asked, Selects}
+use Rattle.json.specs.Demand2.{Obeys, root, AskedWith, Selects}
 
 unfoldable pub sample : List ℕ
 sample = bytes "{ \"a\" : [1,\"\\\"\\u0041\"],\n\"b\":{} }"
@@ -72,7 +72,7 @@ sample-path = bytes "$.a[1]"
 abbrev steps : List Selector
 steps = name (0x61 ∷ []) ∷ number 1 ∷ []
 
-pub sample-asked : Asked sample (index sample 2) 2 sample-path steps
+pub sample-asked : AskedWith sample (index sample 2) 2 sample-path steps
 unfolding sample sample-path large
 sample-asked = record {
   size = omega arith;

@@ -37,12 +37,12 @@ use Rattle.json.proofs.Members.{names-taken}
 use Rattle.json.proofs.Names.{rawChildren}
 
 -- what is taken from a node, and what the step answers
-pub data Outcome (text : List ℕ) (k : ℕ) (ts : List Json) (x : Answer) : Type 0 where
-  miss : (why : Refusal) → In 23 26 (refusalNumber why) → ts ≡ [] → x ≡ Refused why → Outcome text k ts x
-  hit : (a : ℕ) (v : Bare) → ts ≡ bareTree a v ∷ [] → x ≡ Found a (a + length (bareBytes v)) → Good text k a v → Outcome text k ts x
+pub data StepTaken (text : List ℕ) (k : ℕ) (ts : List Json) (x : Answer) : Type 0 where
+  miss : (why : Refusal) → In 23 26 (refusalNumber why) → ts ≡ [] → x ≡ Refused why → StepTaken text k ts x
+  hit : (a : ℕ) (v : Bare) → ts ≡ bareTree a v ∷ [] → x ≡ Found a (a + length (bareBytes v)) → Good text k a v → StepTaken text k ts x
 
 module _ (text : List ℕ) (k : ℕ) where
-  of-item : (ts : List Json) (x : Item) (why : Refusal) → In 23 26 (refusalNumber why) → Taken text (suc k) ts x → Outcome text (suc k) ts (ofItem why x)
+  of-item : (ts : List Json) (x : Item) (why : Refusal) → In 23 26 (refusalNumber why) → Taken text (suc k) ts x → StepTaken text (suc k) ts (ofItem why x)
   of-item ts x why h (none e f) = miss why h e (rw f)
   of-item ts x why h (one t e i) = hit (i .place) (i .value) (e ∙ ap (λ (t : Json). t ∷ []) (i .is-tree)) (rw (i .is-part)) (i .good)
 
@@ -89,7 +89,7 @@ module _ (text : List ℕ) (k : ℕ) where
   no-array i a e h = rw (not-framed 0x5B 0x5D a e h)
 
   scalar-step : (s : Selector) (a e : ℕ) (bs : List ℕ) → getD text a 0 ≢ 0x7B → getD text a 0 ≢ 0x5B
-      → Outcome text (suc k) (rawChildren s (scalar a bs)) (stepBy (byteIn text) (ruled text) (suc k) s a e)
+      → StepTaken text (suc k) (rawChildren s (scalar a bs)) (stepBy (byteIn text) (ruled text) (suc k) s a e)
   scalar-step (name n) a e bs h l = miss NotObject (omega arith) refl (no-object n a e h)
   scalar-step (number i) a e bs h l = miss NotArray (omega arith) refl (no-array i a e l)
 
@@ -160,7 +160,7 @@ module _ (text : List ℕ) (k : ℕ) where
   object-none n a xs g b = rw (is-framed 0x7B 0x7D a xs g, is-empty 0x7B 0x7D a xs g b)
 
   array-value : (s : Selector) (a : ℕ) (es : Elems) → Good text k a (Bare.array es)
-      → Outcome text (suc k) (rawChildren s (bareTree a (Bare.array es))) (stepBy (byteIn text) (ruled text) (suc k) s a (a + length (bareBytes (Bare.array es))))
+      → StepTaken text (suc k) (rawChildren s (bareTree a (Bare.array es))) (stepBy (byteIn text) (ruled text) (suc k) s a (a + length (bareBytes (Bare.array es))))
   unfolding deep
   array-value (name n) a es g = miss NotObject (omega arith) refl (no-object n a _ (λ e. omega (arith, e, g .seg .0)))
   array-value (number i) a es g =
@@ -171,7 +171,7 @@ module _ (text : List ℕ) (k : ℕ) where
       (of-item _ _ NoNumber (omega arith) (number-taken text k i (suc a) es _ refl sg at (omega (arith, g .shallow))))
 
   object-value : (s : Selector) (a : ℕ) (ms : Entries) → Good text k a (Bare.object ms)
-      → Outcome text (suc k) (rawChildren s (bareTree a (Bare.object ms))) (stepBy (byteIn text) (ruled text) (suc k) s a (a + length (bareBytes (Bare.object ms))))
+      → StepTaken text (suc k) (rawChildren s (bareTree a (Bare.object ms))) (stepBy (byteIn text) (ruled text) (suc k) s a (a + length (bareBytes (Bare.object ms))))
   unfolding items deep
   object-value (name n) a ms g =
       let sg : Seg text (suc a) (entriesBytes ms) = seg-left text (suc a) (entriesBytes ms) (0x7D ∷ []) (g .seg .1) in
@@ -183,18 +183,18 @@ module _ (text : List ℕ) (k : ℕ) where
   object-value (number i) a ms g = miss NotArray (omega arith) refl (no-array i a _ (λ e. omega (arith, e, g .seg .0)))
 
   empty-array-value : {w : List ℕ} (s : Selector) (a : ℕ) (e : Ws w) → Good text k a (Bare.empty-array e)
-      → Outcome text (suc k) (rawChildren s (bareTree a (Bare.empty-array e))) (stepBy (byteIn text) (ruled text) (suc k) s a (a + length (bareBytes (Bare.empty-array e))))
+      → StepTaken text (suc k) (rawChildren s (bareTree a (Bare.empty-array e))) (stepBy (byteIn text) (ruled text) (suc k) s a (a + length (bareBytes (Bare.empty-array e))))
   unfolding nth
   empty-array-value (name n) a e g = miss NotObject (omega arith) refl (no-object n a _ (λ z. omega (arith, z, g .seg .0)))
   empty-array-value {w} (number i) a e g = miss NoNumber (omega arith) refl (array-none i a w (g .seg) e)
 
   empty-object-value : {w : List ℕ} (s : Selector) (a : ℕ) (e : Ws w) → Good text k a (Bare.empty-object e)
-      → Outcome text (suc k) (rawChildren s (bareTree a (Bare.empty-object e))) (stepBy (byteIn text) (ruled text) (suc k) s a (a + length (bareBytes (Bare.empty-object e))))
+      → StepTaken text (suc k) (rawChildren s (bareTree a (Bare.empty-object e))) (stepBy (byteIn text) (ruled text) (suc k) s a (a + length (bareBytes (Bare.empty-object e))))
   empty-object-value {w} (name n) a e g = miss NoName (omega arith) refl (object-none n a w (g .seg) e)
   empty-object-value (number i) a e g = miss NotArray (omega arith) refl (no-array i a _ (λ z. omega (arith, z, g .seg .0)))
 
   number-value : (s : Selector) (a : ℕ) (bs : List ℕ) → Number bs → Seg text a bs
-      → Outcome text (suc k) (rawChildren s (scalar a bs)) (stepBy (byteIn text) (ruled text) (suc k) s a (a + length bs))
+      → StepTaken text (suc k) (rawChildren s (scalar a bs)) (stepBy (byteIn text) (ruled text) (suc k) s a (a + length bs))
   number-value s a bs n g =
       let f = number-starts n in
       let sg : Seg text a (f .first ∷ f .rest) = rw (f .whole) at g in
@@ -202,7 +202,7 @@ module _ (text : List ℕ) (k : ℕ) where
 
   -- the step, at any value
   pub step-right : (s : Selector) (a : ℕ) (v : Bare) → Good text k a v
-      → Outcome text (suc k) (rawChildren s (bareTree a v)) (stepBy (byteIn text) (ruled text) (suc k) s a (a + length (bareBytes v)))
+      → StepTaken text (suc k) (rawChildren s (bareTree a v)) (stepBy (byteIn text) (ruled text) (suc k) s a (a + length (bareBytes v)))
   step-right s a Bare.false g = scalar-step s a _ _ (λ e. omega (arith, e, g .seg .0)) (λ e. omega (arith, e, g .seg .0))
   step-right s a Bare.null g = scalar-step s a _ _ (λ e. omega (arith, e, g .seg .0)) (λ e. omega (arith, e, g .seg .0))
   step-right s a Bare.true g = scalar-step s a _ _ (λ e. omega (arith, e, g .seg .0)) (λ e. omega (arith, e, g .seg .0))

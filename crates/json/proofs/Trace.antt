@@ -17,7 +17,6 @@ use Rattle.rules.specs.Bits.{runBefore, escaped, quoteBit, inString, maskBit, p
 use Rattle.rules.specs.Faults.{closesNone, opensOver}
 use Rattle.rules.proofs.RuleLaws.{escaped-suc, inString-suc, mask-inside, has-past}
 use Rattle.texts.proofs.Tests.{and-false}
-use Rattle.json.proofs.Machine as M
 use Rattle.json.proofs.Machine.{sortOf, Apart, sort-plain, State, out, str, esc, step, ok, less, go, passed, inside-other}
 
 -- ---- which of the bytes it is

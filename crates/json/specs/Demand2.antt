@@ -35,7 +35,7 @@ pub record Within (levels : ℕ) (path : List ℕ) (ss : List Selector) : Type 0
   pub enough : length ss ≤ levels
 
 -- and a text within the size, with words as close promises them
-pub record Asked (text words : List ℕ) (levels : ℕ) (path : List ℕ) (ss : List Selector) : Type 0 where
+pub record AskedWith (text words : List ℕ) (levels : ℕ) (path : List ℕ) (ss : List Selector) : Type 0 where
   pub size : length text ≤ 16777216
   pub range : In 1 16 levels
   pub promised : Promise text levels words
@@ -50,7 +50,7 @@ pub data Selects (text : List ℕ) : List Json → Answer → Type 0 where
 -- what is proved, for every derivation of the text: a query finds what RFC 9535 selects; whatever the names, no query finds a broken item; and
 -- such a text is sound
 pub record Claim : Type 0 where
-  pub selected : (text words : List ℕ) (levels : ℕ) (path : List ℕ) (ss : List Selector) (t : Obeys text) → Asked text words levels path ss
+  pub selected : (text words : List ℕ) (levels : ℕ) (path : List ℕ) (ss : List Selector) (t : Obeys text) → AskedWith text words levels path ss
       → Selects text (select ss (root t)) (answerOf text words levels path)
   pub unbroken : (text words : List ℕ) (levels : ℕ) (path : List ℕ) (t : Text text) → deep (valueOf (t .derivation)) ≤ 64 → Promise text levels words
       → numberOf (answerOf text words levels path) ≢ 27

@@ -50,9 +50,9 @@ select ss root = segments ss (root ∷ [])
 -- ---- the conditions of demand 2
 
 -- no byte of the name is a backslash
-abbrev pub Unescaped : List ℕ → Type 0
-Unescaped [] = Unit {0}
-Unescaped (b ∷ bs) = (b ≢ 0x5C) × Unescaped bs
+abbrev pub NoEscape : List ℕ → Type 0
+NoEscape [] = Unit {0}
+NoEscape (b ∷ bs) = (b ≢ 0x5C) × NoEscape bs
 
 -- none of the fields has that name
 abbrev pub Fresh : List ℕ → Fields → Type 0
@@ -72,4 +72,4 @@ abbrev mutual
 
   pub FairFields : Fields → Type 0
   FairFields noFields = Unit {0}
-  FairFields (field raw us t fs) = Unescaped raw × Fresh us fs × Fair t × FairFields fs
+  FairFields (field raw us t fs) = NoEscape raw × Fresh us fs × Fair t × FairFields fs

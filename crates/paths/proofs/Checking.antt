@@ -9,23 +9,24 @@ use lib.Dec.{ltb, eqb}
 use lib.ListN.{length, getD}
 use borrow.Author.Tests.{le-ltb, lt-ltb, ltb-true, ltb-false, eq-eqb}
 use Rattle.rules.specs.Word.{pick}
+use Rattle.rules.proofs.Booleans.{impossible}
 use Rattle.paths.specs.Places.{byteIn, between}
 use Rattle.paths.specs.Grammar.{Selector, name, number}
 use Rattle.paths.specs.Path.{stepAt, Reading, good, bad, before, readFrom, readPath, large}
-use Rattle.paths.specs.Helpers.{told, verdictOf, checked, pathCheck}
-use Rattle.paths.specs.declared.Step.the-variants.{Name, Number, End, Refused}
+use Rattle.paths.specs.Helpers.{told, limitsOf, checkedReading, pathCheck}
+use Rattle.paths.specs.declared.PathStep.the-variants.{Name, Number, End, Refused}
 use Rattle.paths.specs.declared.Checked.{Checked}
 use Rattle.paths.specs.declared.Checked.the-variants.{Fine, Bad, TooLarge, TooDeep}
 use Rattle.paths.proofs.PathLaws.{name-told, number-told, end-told, bad-told, inside}
 
 -- the check of what is read, after so many steps and perhaps a large number
 abbrev rest : Bool → ℕ → ℕ → Reading → Checked
-rest big steps levels (good ss) = verdictOf (big || large ss) (steps + length ss) levels
+rest big steps levels (good ss) = limitsOf (big || large ss) (steps + length ss) levels
 rest big steps levels (bad p) = Bad p
 
 rest-name : (big : Bool) (steps levels : ℕ) (n : List ℕ) (r : Reading) → rest big steps levels (before (name n) r) ≡ rest big (steps + 1) levels r
 unfolding large
-rest-name big steps levels n (good ss) = ap (λ (c : ℕ). verdictOf (big || large ss) c levels) (omega arith)
+rest-name big steps levels n (good ss) = ap (λ (c : ℕ). limitsOf (big || large ss) c levels) (omega arith)
 rest-name big steps levels n (bad p) = refl
 
 or-or : (a b c : Bool) → (a || (b || c)) ≡ ((a || b) || c)
@@ -34,7 +35,7 @@ or-or false b c = refl
 
 rest-number : (big : Bool) (steps levels v : ℕ) (r : Reading) → rest big steps levels (before (number v) r) ≡ rest (big || ltb 16777215 v) (steps + 1) levels r
 unfolding large
-rest-number big steps levels v (good ss) = rw or-or (ap (λ (c : ℕ). verdictOf ((big || ltb 16777215 v) || large ss) c levels) (omega arith))
+rest-number big steps levels v (good ss) = rw or-or (ap (λ (c : ℕ). limitsOf ((big || ltb 16777215 v) || large ss) c levels) (omega arith))
 rest-number big steps levels v (bad p) = refl
 
 pub record Checking (path : List ℕ) (levels at : ℕ) (big : Bool) (steps : ℕ) : Type 0 where
@@ -51,8 +52,8 @@ checking-start path levels l h =
     let i : 0 < length path = inside (λ b. eqb b 36) refl path 0 (eq-eqb _ _ h) in
     record { within = omega arith; short = l; count = omega arith; fuel = length path; enough = omega arith; same = rw (le-ltb 1024 (length path) l, h) (start (readFrom (length path) path 1)) }
   where
-    start : (r : Reading) → checked levels r ≡ rest false 0 levels r
-    start (good ss) = ap (λ (c : ℕ). verdictOf (large ss) c levels) (sym (zero-add (length ss)))
+    start : (r : Reading) → checkedReading levels r ≡ rest false 0 levels r
+    start (good ss) = ap (λ (c : ℕ). limitsOf (large ss) c levels) (sym (zero-add (length ss)))
     start (bad p) = refl
 
 or-pick : (big c : Bool) → (big || c) ≡ pick c true big
@@ -117,7 +118,7 @@ module _ {path : List ℕ} {levels at : ℕ} {big : Bool} {steps : ℕ} (i : Che
             },
           )
 
-  pub checking-end : told (stepAt path at) ≡ End → pathCheck path levels ≡ verdictOf big steps levels
+  pub checking-end : told (stepAt path at) ≡ End → pathCheck path levels ≡ limitsOf big steps levels
   unfolding readFrom large
   checking-end e = go (i .fuel) (i .enough) (i .same)
     where
@@ -125,7 +126,7 @@ module _ {path : List ℕ} {levels at : ℕ} {big : Bool} {steps : ℕ} (i : Che
       none true = refl
       none false = refl
 
-      go : (c : ℕ) → length path - at < c → pathCheck path levels ≡ rest big steps levels (readFrom c path at) → pathCheck path levels ≡ verdictOf big steps levels
+      go : (c : ℕ) → length path - at < c → pathCheck path levels ≡ rest big steps levels (readFrom c path at) → pathCheck path levels ≡ limitsOf big steps levels
       go zero l q = absurd (omega arith)
       go (suc c) l q = q ∙ rw (end-told path at e, none, add-zero)
 
@@ -146,18 +147,18 @@ pub record Fits (path : List ℕ) (levels : ℕ) : Type 0 where
   pub small : large selectors ≡ false
   pub few : length selectors ≤ levels
 
-fine-verdict : (b c : Bool) → pick b TooLarge (pick c TooDeep Fine) ≡ Fine → (b ≡ false) × (c ≡ false)
-fine-verdict true c e = absurd (let z : _≡_ {A = ℕ} 0 1 = cc in omega arith)
-fine-verdict false true e = absurd (let z : _≡_ {A = ℕ} 0 1 = cc in omega arith)
-fine-verdict false false e = (refl, refl)
+fine-limits : (b c : Bool) → pick b TooLarge (pick c TooDeep Fine) ≡ Fine → (b ≡ false) × (c ≡ false)
+fine-limits true c e = impossible (cc)
+fine-limits false true e = impossible (cc)
+fine-limits false false e = (refl, refl)
 
 pub fits-fine : (path : List ℕ) (levels : ℕ) → pathCheck path levels ≡ Fine → Fits path levels
 unfolding pathCheck
 fits-fine path levels e = go (ltb 1024 (length path)) (readPath path) refl e
   where
-    go : (b : Bool) (r : Reading) → readPath path ≡ r → pick b TooLarge (checked levels r) ≡ Fine → Fits path levels
-    go true r q e = absurd (let z : _≡_ {A = ℕ} 0 1 = cc in omega arith)
-    go false (bad p) q e = absurd (let z : _≡_ {A = ℕ} 0 1 = cc in omega arith)
+    go : (b : Bool) (r : Reading) → readPath path ≡ r → pick b TooLarge (checkedReading levels r) ≡ Fine → Fits path levels
+    go true r q e = impossible (cc)
+    go false (bad p) q e = impossible (cc)
     go false (good ss) q e =
-        let v = fine-verdict (large ss) (ltb levels (length ss)) e in
+        let v = fine-limits (large ss) (ltb levels (length ss)) e in
         record { selectors = ss; reads = q; small = v .0; few = ltb-false levels (length ss) (v .1) }

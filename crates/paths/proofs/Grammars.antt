@@ -8,6 +8,7 @@ use native.Mathlib.Omega.{arith}
 use lib.Dec.{eqb}
 use lib.ListN.{length, take}
 use borrow.Author.Tests.{eqb-true, eqb-false}
+use Rattle.rules.proofs.Booleans.{impossible}
 use Rattle.paths.specs.Grammar.{Selector, name, number, In, Letter, Rest, Name, More, Numeral, Steps, Path, RefusedAt}
 use Rattle.paths.specs.Path.{isDigit, isHead, isTail, Reading, good, bad, before}
 use Rattle.paths.proofs.Machine.{Mode, start, after, dotted, opened, nought, naming, counting, Move, stop, to, emit, move, ended, follow, read, digit-of, letter-of, tail-of, machine-reads}
@@ -117,16 +118,16 @@ back (count-close {v}) = λ xs ss l ds k. close-count v xs ss l ds k
 -- a selector before what is read
 unbefore : (s : Selector) (r : Reading) (ss : List Selector) → before s r ≡ good ss → (ts : List Selector) × (r ≡ good ts) × (ss ≡ s ∷ ts)
 unbefore s (good ts) ss e = (ts, refl, cc)
-unbefore s (bad p) ss e = absurd (let z : _≡_ {A = ℕ} 0 1 = cc in omega arith)
+unbefore s (bad p) ss e = impossible (cc)
 
 end-good : (m : Mode) (i : ℕ) (ss : List Selector) → ended m i ≡ good ss → Lang m [] ss
-end-good start i ss e = absurd (let z : _≡_ {A = ℕ} 0 1 = cc in omega arith)
+end-good start i ss e = impossible (cc)
 end-good after i ss e = let q : ss ≡ [] = cc in rw q Steps.none
-end-good dotted i ss e = absurd (let z : _≡_ {A = ℕ} 0 1 = cc in omega arith)
-end-good opened i ss e = absurd (let z : _≡_ {A = ℕ} 0 1 = cc in omega arith)
-end-good nought i ss e = absurd (let z : _≡_ {A = ℕ} 0 1 = cc in omega arith)
+end-good dotted i ss e = impossible (cc)
+end-good opened i ss e = impossible (cc)
+end-good nought i ss e = impossible (cc)
 end-good (naming n) i ss e = let q : ss ≡ name n ∷ [] = cc in rw q (λ h. Steps.dot h Steps.none)
-end-good (counting v) i ss e = absurd (let z : _≡_ {A = ℕ} 0 1 = cc in omega arith)
+end-good (counting v) i ss e = impossible (cc)
 
 read-good : (m : Mode) (i : ℕ) (bs : List ℕ) (ss : List Selector) → read m i bs ≡ good ss → Lang m bs ss
 read-good m i [] ss e = end-good m i ss e
@@ -134,7 +135,7 @@ read-good m i (b ∷ bs) ss e = go (move m b) (back (view m b)) e (λ m′ ts f.
   where
     go : (v : Move) → Back m b v → follow v i (λ m′. read m′ (suc i) bs) ≡ good ss
         → ((m′ : Mode) (ts : List Selector) → read m′ (suc i) bs ≡ good ts → Lang m′ bs ts) → Lang m (b ∷ bs) ss
-    go stop k e f = absurd (let z : _≡_ {A = ℕ} 0 1 = cc in omega arith)
+    go stop k e f = impossible (cc)
     go (to m′) k e f = k bs ss (f m′ ss e)
     go (emit s m′) k e f = let u = unbefore s (read m′ (suc i) bs) ss e in rw (u .2) (k bs (u .0) (f m′ (u .0) (u .1)))
 
@@ -144,7 +145,7 @@ machine-good bs ss e = read-good start 0 bs ss e
 -- ---- the place of 20
 
 unbad : (s : Selector) (r : Reading) (p : ℕ) → before s r ≡ bad p → r ≡ bad p
-unbad s (good ts) p e = absurd (let z : _≡_ {A = ℕ} 0 1 = cc in omega arith)
+unbad s (good ts) p e = impossible (cc)
 unbad s (bad q) p e = e
 
 -- a reading that stops at place i + p
@@ -209,4 +210,4 @@ machine-bad bs j e =
     })
   where
     clash : {x : Reading} {ss : List Selector} {p : ℕ} → x ≡ good ss → x ≡ bad p → ⊥
-    clash e f = let z : _≡_ {A = ℕ} 0 1 = cc in omega arith
+    clash e f = impossible (cc)

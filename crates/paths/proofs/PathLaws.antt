@@ -9,10 +9,10 @@ use lib.Dec.{leb, ltb, eqb}
 use lib.ListN.{length, getD, List·getD-eq-default}
 use borrow.Author.Tests.{le-leb, lt-leb, leb-true, ne-eqb}
 use Rattle.rules.specs.Word.{pick}
-use Rattle.paths.specs.Path.{inRange, isDigit, isHead, isTail, runEnd, decimal, numberEnd, closed, nameAt, numberAt, stepAt, onStep}
+use Rattle.paths.specs.Path.{inRange, isDigit, isHead, isTail, runEnd, decimal, numberEnd, bracketed, nameAt, numberAt, stepAt, onStep}
 use Rattle.paths.specs.Helpers.{told}
-use Rattle.paths.specs.declared.Step.{Step}
-use Rattle.paths.specs.declared.Step.the-variants.{Name, Number, End, Refused}
+use Rattle.paths.specs.declared.PathStep.{PathStep}
+use Rattle.paths.specs.declared.PathStep.the-variants.{Name, Number, End, Refused}
 use Rattle.paths.proofs.PlaceLaws.{pick-ind, first-next, first-ge, first-le}
 
 -- ---- classes
@@ -51,9 +51,9 @@ decimal-next s a i h =
     let f : a + (i - a) ≡ i = omega arith in
     rw (e, f)
 
-told-closed : (s : List ℕ) (e v : ℕ) → told (closed s e v) ≡ closed s e (min v 16777216)
+told-bracketed : (s : List ℕ) (e v : ℕ) → told (bracketed s e v) ≡ bracketed s e (min v 16777216)
 unfolding told
-told-closed s e v = go (eqb (getD s e 0) 93)
+told-bracketed s e v = go (eqb (getD s e 0) 93)
   where
     go : (b : Bool) → told (pick b (Number v (e + 1)) (Refused e)) ≡ pick b (Number (min v 16777216) (e + 1)) (Refused e)
     go true = refl
@@ -61,29 +61,29 @@ told-closed s e v = go (eqb (getD s e 0) 93)
 
 pub told-name : (s : List ℕ) (a : ℕ) → told (nameAt s a) ≡ nameAt s a
 unfolding told
-told-name s a = pick-ind (λ (st : Step). told st ≡ st) (isHead (getD s a 0)) (Name a (runEnd isTail s (a + 1)) (runEnd isTail s (a + 1))) (Refused a) (λ _. refl) (λ _. refl)
+told-name s a = pick-ind (λ (st : PathStep). told st ≡ st) (isHead (getD s a 0)) (Name a (runEnd isTail s (a + 1)) (runEnd isTail s (a + 1))) (Refused a) (λ _. refl) (λ _. refl)
 
 pub number-none : (s : List ℕ) (a : ℕ) → isDigit (getD s a 0) ≡ false → told (numberAt s a) ≡ Refused a
 unfolding told
 number-none s a h = rw h
 
-pub number-zero : (s : List ℕ) (a : ℕ) → getD s a 0 ≡ 48 → told (numberAt s a) ≡ closed s (a + 1) 0
+pub number-zero : (s : List ℕ) (a : ℕ) → getD s a 0 ≡ 48 → told (numberAt s a) ≡ bracketed s (a + 1) 0
 unfolding isDigit decimal
 number-zero s a h =
     let z : a - a ≡ 0 = omega arith in
     let n : decimal s a (a - a) ≡ 0 = rw z in
     let v : min (decimal s a (a + 1 - a)) 16777216 ≡ 0 = omega (arith, decimal-next s a a (omega arith)) in
-    rw h (told-closed s (a + 1) (decimal s a (a + 1 - a)) ∙ ap (closed s (a + 1)) v)
+    rw h (told-bracketed s (a + 1) (decimal s a (a + 1 - a)) ∙ ap (bracketed s (a + 1)) v)
 
 pub number-long : (s : List ℕ) (a : ℕ) → a < length s → isDigit (getD s a 0) ≡ true → (getD s a 0 ≡ 48 → ⊥)
-    → told (numberAt s a) ≡ closed s (runEnd isDigit s a) (min (decimal s a (runEnd isDigit s a - a)) 16777216)
+    → told (numberAt s a) ≡ bracketed s (runEnd isDigit s a) (min (decimal s a (runEnd isDigit s a - a)) 16777216)
 number-long s a l d h =
     let e : runEnd isDigit s a ≡ runEnd isDigit s (a + 1) = first-next _ a (length s) l (rw d) in
-    rw (d, ne-eqb (getD s a 0) 48 h, e) (told-closed s (runEnd isDigit s (a + 1)) (decimal s a (runEnd isDigit s (a + 1) - a)))
+    rw (d, ne-eqb (getD s a 0) 48 h, e) (told-bracketed s (runEnd isDigit s (a + 1)) (decimal s a (runEnd isDigit s (a + 1) - a)))
 
 -- ---- a step that begins at `at` lies in the path, and what follows it is further on
 
-abbrev pub Ends : List ℕ → ℕ → Step → Type 0
+abbrev pub Ends : List ℕ → ℕ → PathStep → Type 0
 Ends s at st = onStep st (λ b f x. (b < f) × (f ≤ length s) × (at < x) × (x ≤ length s)) (λ v x. (at < x) × (x ≤ length s)) (Unit {0}) (λ p. Unit {0})
 
 name-ends : (s : List ℕ) (at a : ℕ) → at < a → Ends s at (nameAt s a)
@@ -96,8 +96,8 @@ name-ends s at a l =
     (omega arith, omega arith, omega arith, omega arith))
     (λ h. tt)
 
-closed-ends : (s : List ℕ) (at e v : ℕ) → at < e → Ends s at (closed s e v)
-closed-ends s at e v l =
+bracketed-ends : (s : List ℕ) (at e v : ℕ) → at < e → Ends s at (bracketed s e v)
+bracketed-ends s at e v l =
     pick-ind (Ends s at) (eqb (getD s e 0) 93) _ _
     (λ h. let i : e < length s = inside (λ b. eqb b 93) refl s e h in (omega arith, omega arith))
     (λ h. tt)
@@ -108,7 +108,7 @@ number-ends s at a l =
     pick-ind (Ends s at) (isDigit (getD s a 0)) _ _
     (λ h. let i : a < length s = inside isDigit refl s a h in
     let e : at < numberEnd s a = pick-ind (λ n. at < n) (eqb (getD s a 0) 48) _ _ (λ _. omega arith) (λ _. omega (arith, first-ge (λ k. not (isDigit (getD s k 0))) (a + 1) (length s) (omega arith))) in
-    closed-ends s at (numberEnd s a) _ e)
+    bracketed-ends s at (numberEnd s a) _ e)
     (λ h. tt)
 
 pub step-ends : (s : List ℕ) (at : ℕ) → Ends s at (stepAt s at)
@@ -122,10 +122,10 @@ step-ends s at =
 -- ---- the step that the code holds
 
 -- what the step is, by what the code holds of it
-abbrev Of : Step → Step → Type 0
+abbrev Of : PathStep → PathStep → Type 0
 Of st held = onStep held (λ b f x. st ≡ Name b f x) (λ m x. (v : ℕ) × (st ≡ Number v x) × (m ≡ min v 16777216)) (st ≡ End) (λ p. st ≡ Refused p)
 
-of-told : (st : Step) → Of st (told st)
+of-told : (st : PathStep) → Of st (told st)
 unfolding told
 of-told (Name b f x) = refl
 of-told (Number v x) = (v, refl, refl)
@@ -133,7 +133,7 @@ of-told End = refl
 of-told (Refused p) = refl
 
 module _ (s : List ℕ) (at : ℕ) where
-  held : {st : Step} → told (stepAt s at) ≡ st → Of (stepAt s at) st
+  held : {st : PathStep} → told (stepAt s at) ≡ st → Of (stepAt s at) st
   held e = subst (Of (stepAt s at)) e (of-told (stepAt s at))
 
   pub name-told : {b f x : ℕ} → told (stepAt s at) ≡ Name b f x → (stepAt s at ≡ Name b f x) × (b < f) × (f ≤ length s) × (at < x) × (x ≤ length s)

@@ -15,9 +15,9 @@ use borrow.Author.Tests.{ltb-true, ltb-false, eqb-true, not-true, not-false, ne-
 use Rattle.rules.specs.Word.{pick}
 use Rattle.paths.specs.Places.{byteIn, between}
 use Rattle.paths.specs.Grammar.{Selector, name, number, Path, Begins, RefusedAt}
-use Rattle.paths.specs.Path.{isDigit, isHead, isTail, runEnd, decimal, numberEnd, closed, nameAt, numberAt, stepAt, onStep, Reading, good, bad, before, readFrom, readPath}
-use Rattle.paths.specs.declared.Step.{Step}
-use Rattle.paths.specs.declared.Step.the-variants as Kind
+use Rattle.paths.specs.Path.{isDigit, isHead, isTail, runEnd, decimal, numberEnd, bracketed, nameAt, numberAt, stepAt, onStep, Reading, good, bad, before, readFrom, readPath}
+use Rattle.paths.specs.declared.PathStep.{PathStep}
+use Rattle.paths.specs.declared.PathStep.the-variants as Kind
 use Rattle.paths.proofs.PlaceLaws.{between-none, between-some, pick-ind, first-ind, first-le, first-hit}
 use Rattle.paths.proofs.PathLaws.{Ends, step-ends, inside, decimal-next}
 use Rattle.paths.proofs.Machine.{Mode, start, after, dotted, opened, nought, naming, counting, Move, stop, to, emit, move, ended, follow, read, machine-reads}
@@ -100,7 +100,7 @@ stay-digits path b a l h =
 -- ---- a step
 
 -- what the machine makes of a step that begins at `at`
-abbrev Follows : List ℕ → ℕ → Step → Type 0
+abbrev Follows : List ℕ → ℕ → PathStep → Type 0
 Follows path at st =
     onStep st
     (λ b f x. from path after at ≡ before (name (between (byteIn path) b f)) (from path after x))
@@ -122,9 +122,9 @@ name-follows path at a h g =
     ∙ leave path (between (byteIn path) a e) e k (run-over isTail refl path (a + 1) (omega arith)))
     (λ c. g ∙ from-halt path dotted a h refl (rw c))
 
-closed-follows : (m : Mode) (path : List ℕ) (at e v : ℕ) → e ≤ length path → ended m e ≡ bad e → move m (getD path e 0) ≡ pick (eqb (getD path e 0) 93) (emit (number v) after) stop
-    → from path after at ≡ from path m e → Follows path at (closed path e v)
-closed-follows m path at e v h n q g =
+bracketed-follows : (m : Mode) (path : List ℕ) (at e v : ℕ) → e ≤ length path → ended m e ≡ bad e → move m (getD path e 0) ≡ pick (eqb (getD path e 0) 93) (emit (number v) after) stop
+    → from path after at ≡ from path m e → Follows path at (bracketed path e v)
+bracketed-follows m path at e v h n q g =
     pick-ind (Follows path at) (eqb (getD path e 0) 93) (Kind.Number v (e + 1)) (Kind.Refused e)
     (λ c. g ∙ from-emit path m after (number v) e (inside (λ b. eqb b 93) refl path e c) (q ∙ rw c) ∙ ap (λ (j : ℕ). before (number v) (from path after j)) (sym (add-one e)))
     (λ c. g ∙ from-halt path m e h n (q ∙ rw c))
@@ -139,14 +139,14 @@ number-follows path at a h g =
     let z : a + 1 ≡ suc a = add-one a in
     let n : a - a ≡ 0 = omega arith in
     let d : decimal path a (a + 1 - a) ≡ getD path a 0 - 48 = omega (arith, decimal-next path a a (omega arith), ap (decimal path a) n) in
-    pick-ind (Follows path at) (isDigit (getD path a 0)) (closed path (numberEnd path a) (decimal path a (numberEnd path a - a))) (Kind.Refused a)
+    pick-ind (Follows path at) (isDigit (getD path a 0)) (bracketed path (numberEnd path a) (decimal path a (numberEnd path a - a))) (Kind.Refused a)
     (λ c. let i : a < length path = inside isDigit refl path a c in
     let r = runEnd isDigit path (a + 1) in
     let k : r ≤ length path = first-le (λ k. not (isDigit (getD path k 0))) (a + 1) (length path) (omega arith) in
-    pick-ind (λ e. Follows path at (closed path e (decimal path a (e - a)))) (eqb (getD path a 0) 48) (a + 1) r
+    pick-ind (λ e. Follows path at (bracketed path e (decimal path a (e - a)))) (eqb (getD path a 0) 48) (a + 1) r
     (λ y. let v : decimal path a (a + 1 - a) ≡ 0 = omega (arith, eqb-true (getD path a 0) 48 y) in
-    rw v (closed-follows nought path at (a + 1) 0 (omega arith) refl refl (g ∙ from-go path opened nought a i (rw y) ∙ ap (from path nought) (sym z))))
-    (λ y. closed-follows (counting (decimal path a (r - a))) path at r (decimal path a (r - a)) k refl (rw (run-over isDigit refl path (a + 1) (omega arith)))
+    rw v (bracketed-follows nought path at (a + 1) 0 (omega arith) refl refl (g ∙ from-go path opened nought a i (rw y) ∙ ap (from path nought) (sym z))))
+    (λ y. bracketed-follows (counting (decimal path a (r - a))) path at r (decimal path a (r - a)) k refl (rw (run-over isDigit refl path (a + 1) (omega arith)))
     (g ∙ from-go path opened (counting (getD path a 0 - 48)) a i (rw (y, c)) ∙ ap₂ (λ (v j : ℕ). from path (counting v) j) (sym d) (sym z) ∙ stay-digits path a (a + 1) (omega arith) (omega arith))))
     (λ c. g ∙ from-halt path opened a h refl (rw (not-zero (getD path a 0) c, c)))
 
@@ -155,8 +155,8 @@ unfolding stepAt
 step-follows path at h =
     let b = getD path at 0 in
     let z : at + 1 ≡ suc at = add-one at in
-    let y3 : Step = pick (eqb b 91) (numberAt path (at + 1)) (Kind.Refused at) in
-    let y2 : Step = pick (eqb b 46) (nameAt path (at + 1)) y3 in
+    let y3 : PathStep = pick (eqb b 91) (numberAt path (at + 1)) (Kind.Refused at) in
+    let y2 : PathStep = pick (eqb b 46) (nameAt path (at + 1)) y3 in
     pick-ind (Follows path at) (ltb at (length path)) y2 Kind.End
     (λ l. let i : at < length path = ltb-true at (length path) l in
     pick-ind (Follows path at) (eqb b 46) (nameAt path (at + 1)) y3
@@ -174,7 +174,7 @@ readFrom-is zero path at h l = absurd (omega arith)
 readFrom-is (suc c) path at h l = go (λ x i j. readFrom-is c path x i j) (stepAt path at) (step-ends path at) (step-follows path at h)
   where
     go : ((x : ℕ) → x ≤ length path → length path - x < c → readFrom c path x ≡ from path after x)
-        → (st : Step) → Ends path at st → Follows path at st
+        → (st : PathStep) → Ends path at st → Follows path at st
         → onStep st (λ b f x. before (name (between (byteIn path) b f)) (readFrom c path x)) (λ v x. before (number v) (readFrom c path x)) (good []) bad ≡ from path after at
     go ih (Kind.Name b f x) n p = ap (before (name (between (byteIn path) b f))) (ih x (n .3) (omega arith)) ∙ sym p
     go ih (Kind.Number v x) n p = ap (before (number v)) (ih x (n .1) (omega arith)) ∙ sym p

@@ -8,8 +8,8 @@ use lib.Dec.{ltb, leb, eqb}
 use Rattle.rules.specs.Word.{pick}
 use Rattle.paths.specs.Places.{byteIn, between, firstAt}
 use Rattle.paths.specs.Grammar.{Selector, name, number}
-use Rattle.paths.specs.declared.Step.{Step}
-use Rattle.paths.specs.declared.Step.the-variants.{Name, Number, End, Refused}
+use Rattle.paths.specs.declared.PathStep.{PathStep}
+use Rattle.paths.specs.declared.PathStep.the-variants.{Name, Number, End, Refused}
 
 abbrev pub inRange : ℕ → ℕ → ℕ → Bool
 inRange lo hi b = leb lo b && leb b hi
@@ -40,22 +40,22 @@ abbrev pub numberEnd : List ℕ → ℕ → ℕ
 numberEnd path a = pick (eqb (getD path a 0) 48) (a + 1) (runEnd isDigit path (a + 1))
 
 -- a name that begins at a
-abbrev pub nameAt : List ℕ → ℕ → Step
+abbrev pub nameAt : List ℕ → ℕ → PathStep
 nameAt path a = pick (isHead (getD path a 0)) (Name a (runEnd isTail path (a + 1)) (runEnd isTail path (a + 1))) (Refused a)
 
 -- the bracket at e, behind a number of value v
-abbrev pub closed : List ℕ → ℕ → ℕ → Step
-closed path e v = pick (eqb (getD path e 0) 93) (Number v (e + 1)) (Refused e)
+abbrev pub bracketed : List ℕ → ℕ → ℕ → PathStep
+bracketed path e v = pick (eqb (getD path e 0) 93) (Number v (e + 1)) (Refused e)
 
 -- a number that begins at a, with its bracket
-abbrev pub numberAt : List ℕ → ℕ → Step
+abbrev pub numberAt : List ℕ → ℕ → PathStep
 numberAt path a =
     pick (isDigit (getD path a 0))
-    (closed path (numberEnd path a) (decimal path a (numberEnd path a - a)))
+    (bracketed path (numberEnd path a) (decimal path a (numberEnd path a - a)))
     (Refused a)
 
 -- the step that begins at a place
-unfoldable pub stepAt : List ℕ → ℕ → Step
+unfoldable pub stepAt : List ℕ → ℕ → PathStep
 unfolding isHead isDigit isTail decimal
 stepAt path at =
     pick (ltb at (length path))
@@ -67,7 +67,7 @@ stepAt path at =
     End
 
 -- by the kind of a step
-abbrev pub onStep {ℓ} : {A : Type ℓ} → Step → (ℕ → ℕ → ℕ → A) → (ℕ → ℕ → A) → A → (ℕ → A) → A
+abbrev pub onStep {ℓ} : {A : Type ℓ} → PathStep → (ℕ → ℕ → ℕ → A) → (ℕ → ℕ → A) → A → (ℕ → A) → A
 onStep (Name b f x) named numbered end refused = named b f x
 onStep (Number v x) named numbered end refused = numbered v x
 onStep End named numbered end refused = end

@@ -2,11 +2,11 @@
 ghost use mathlib.Core.Path.{_≡_};
 ghost use Prim.Native.Nat.{_-_, _≤_, min};
 ghost use lib.ListN.{length};
-ghost use Rattle.paths.specs.Path.{isHead, isDigit, isTail, runEnd, decimal, nameAt, closed, numberAt, stepAt};
-ghost use Rattle.paths.specs.Helpers.{told, verdictOf, pathCheck};
+ghost use Rattle.paths.specs.Path.{isHead, isDigit, isTail, runEnd, decimal, nameAt, bracketed, numberAt, stepAt};
+ghost use Rattle.paths.specs.Helpers.{told, limitsOf, pathCheck};
 
 // What reading at a place of the path hands back.
-pub enum Step {
+pub enum PathStep {
     // `.name`: its bytes are start to end, and what follows begins at next.
     Name {
         start: usize,
@@ -102,18 +102,18 @@ fn read_digits(path: &[u8], from: usize) -> Digits
     Digits { end: i, value: v }
 }
 
-fn read_name(path: &[u8], from: usize) -> Step
+fn read_name(path: &[u8], from: usize) -> PathStep
     requires { ⌜ from ≤ length (now path) ⌝ }
     ensures { λ r. ⌜ r ≡ nameAt (now (path .entry)) from ⌝ }
 {
     if path.len() <= from {
-        return Step::Refused { place: from };
+        return PathStep::Refused { place: from };
     }
     if !is_head(path[from]) {
-        return Step::Refused { place: from };
+        return PathStep::Refused { place: from };
     }
     let end = name_end(path, from + 1);
-    Step::Name {
+    PathStep::Name {
         start: from,
         end,
         next: end,
@@ -121,47 +121,47 @@ fn read_name(path: &[u8], from: usize) -> Step
 }
 
 // The bracket behind a number's digits.
-fn close_number(path: &[u8], end: usize, value: usize) -> Step
+fn close_number(path: &[u8], end: usize, value: usize) -> PathStep
     requires { ⌜ end ≤ length (now path) ⌝ }
-    ensures { λ r. ⌜ r ≡ closed (now (path .entry)) end value ⌝ }
+    ensures { λ r. ⌜ r ≡ bracketed (now (path .entry)) end value ⌝ }
 {
     if path.len() <= end {
-        return Step::Refused { place: end };
+        return PathStep::Refused { place: end };
     }
     if path[end] == 93 {
-        Step::Number {
+        PathStep::Number {
             value,
             next: end + 1,
         }
     } else {
-        Step::Refused { place: end }
+        PathStep::Refused { place: end }
     }
 }
 
-fn read_number(path: &[u8], from: usize) -> Step
+fn read_number(path: &[u8], from: usize) -> PathStep
     requires { ⌜ from ≤ length (now path) ⌝ }
     ensures { λ r. ⌜ r ≡ told (numberAt (now (path .entry)) from) ⌝ }
 {
     if path.len() <= from {
-        return Step::Refused { place: from };
+        return PathStep::Refused { place: from };
     }
     let b = path[from];
     if b == 48 {
         return close_number(path, from + 1, 0);
     }
     if !is_digit(b) {
-        return Step::Refused { place: from };
+        return PathStep::Refused { place: from };
     }
     let d = read_digits(path, from);
     close_number(path, d.end, d.value)
 }
 
 // The step that begins at a place of the path, with what follows it, or the refusal with its place.
-pub fn read_step(path: &[u8], at: usize) -> Step
+pub fn read_step(path: &[u8], at: usize) -> PathStep
     ensures { λ r. ⌜ r ≡ told (stepAt (now (path .entry)) at) ⌝ }
 {
     if path.len() <= at {
-        return Step::End;
+        return PathStep::End;
     }
     let b = path[at];
     if b == 46 {
@@ -170,11 +170,11 @@ pub fn read_step(path: &[u8], at: usize) -> Step
     if b == 91 {
         return read_number(path, at + 1);
     }
-    Step::Refused { place: at }
+    PathStep::Refused { place: at }
 }
 
-fn verdict(big: bool, steps: usize, levels: usize) -> Checked
-    ensures { λ r. ⌜ r ≡ verdictOf big steps levels ⌝ }
+fn limits(big: bool, steps: usize, levels: usize) -> Checked
+    ensures { λ r. ⌜ r ≡ limitsOf big steps levels ⌝ }
 {
     if big {
         return Checked::TooLarge;
@@ -205,23 +205,23 @@ pub fn check_path(path: &[u8], levels: usize) -> Checked
     loop {
         let s = read_step(path, at);
         match s {
-            Step::Name {
+            PathStep::Name {
                 start: _,
                 end: _,
                 next,
             } => {
                 at = next;
             }
-            Step::Number { value, next } => {
+            PathStep::Number { value, next } => {
                 if 16777215 < value {
                     big = true;
                 }
                 at = next;
             }
-            Step::End => {
-                return verdict(big, steps, levels);
+            PathStep::End => {
+                return limits(big, steps, levels);
             }
-            Step::Refused { place } => {
+            PathStep::Refused { place } => {
                 return Checked::Bad { place };
             }
         }

@@ -25,7 +25,7 @@ use Rattle.query.specs.declared.types.Answer.{Answer}
 use Rattle.query.specs.declared.types.Answer.the-variants.{Found, Refused}
 use Rattle.paths.proofs.PlaceLaws.{first-ge, first-le, last-bounds}
 use Rattle.query.proofs.ItemLaws.{framed-long}
-use Rattle.query.proofs.Inside.{Within, value-in, of-in, step-in}
+use Rattle.query.proofs.Inside.{InRecord, value-in, of-in, step-in}
 use Rattle.paths.proofs.Reading.{read-is-path}
 
 -- the same bits at places below n, and at levels up to l
@@ -112,7 +112,7 @@ module _ (byte : ℕ → ℕ) (n l : ℕ) (b c : Bits) (g : Agree n l b c) where
       when (framed byte 91 93 a e) (Refused NotArray) (λ q. let f = framed-long byte 91 93 a e q in
       when (filled byte a e) (Refused NoNumber) (λ _. ap (ofItem NoNumber) (itemNo-agree byte (b .comma k) (c .comma k) n (λ i z. g .commas k i o p z) m (a + 1) (e - 1) (omega arith) (omega arith))))
 
-  on-agree : (r : Answer) (x y : ℕ → ℕ → Answer) → Within n r → ((s e : ℕ) → e ≤ n → x s e ≡ y s e) → onFound r x Refused ≡ onFound r y Refused
+  on-agree : (r : Answer) (x y : ℕ → ℕ → Answer) → InRecord n r → ((s e : ℕ) → e ≤ n → x s e ≡ y s e) → onFound r x Refused ≡ onFound r y Refused
   on-agree (Found s e) x y i f = f s e (i .1)
   on-agree (Refused why) x y i f = refl
 

@@ -11,7 +11,7 @@ use Rattle.rules.specs.Word.{pick}
 use Rattle.rules.specs.Layout.{widthOf}
 use Rattle.paths.specs.Grammar.{Selector}
 use Rattle.paths.specs.Path.{Reading, good, bad, readPath, large}
-use Rattle.paths.specs.Helpers.{checked, pathCheck}
+use Rattle.paths.specs.Helpers.{checkedReading, pathCheck}
 use Rattle.query.specs.Items.{lent, trimStart, trimEnd, valueAt}
 use Rattle.query.specs.Walk.{ofItem, walk}
 use Rattle.query.specs.Answers.{afterReading}
@@ -55,7 +55,7 @@ module _ (text words : List ℕ) (levels : ℕ) (path : List ℕ) where
       deep false true w = refl
       deep false false w = refl
 
-      go : (b : Bool) (r : Reading) → pick b (Refused TooLarge) (afterReading text words levels r) ≡ onCheck (pick b Checks.TooLarge (checked levels r)) (walkRead r)
+      go : (b : Bool) (r : Reading) → pick b (Refused TooLarge) (afterReading text words levels r) ≡ onCheck (pick b Checks.TooLarge (checkedReading levels r)) (walkRead r)
       go true r = refl
       go false (bad p) = refl
       go false (good ss) = deep (large ss) (ltb levels (length ss)) (walkRead (good ss))

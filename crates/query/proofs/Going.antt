@@ -8,6 +8,7 @@ use lib.Dec.{eqb, ltb}
 use lib.ListN.{length, getD}
 use borrow.Author.Tests.{ltb-false}
 use Rattle.rules.specs.Word.{pick}
+use Rattle.rules.proofs.Booleans.{impossible}
 use Rattle.paths.specs.Places.{byteIn, between}
 use Rattle.paths.specs.Grammar.{Selector, name, number}
 use Rattle.paths.specs.Path.{stepAt, Reading, good, bad, before, readFrom, readPath, large}
@@ -15,14 +16,14 @@ use Rattle.paths.specs.Helpers.{told, pathCheck}
 use Rattle.query.specs.Items.{lent}
 use Rattle.query.specs.Walk.{nameStep, numberStep, stepBy, walkFrom}
 use Rattle.query.specs.declared.bits.Shape.{Shape}
-use Rattle.paths.specs.declared.Step.{Step}
-use Rattle.paths.specs.declared.Step.the-variants as Kind
+use Rattle.paths.specs.declared.PathStep.{PathStep}
+use Rattle.paths.specs.declared.PathStep.the-variants as Kind
 use Rattle.paths.specs.declared.Checked.the-variants.{Fine}
 use Rattle.query.specs.declared.types.Refusal.{Refusal}
 use Rattle.query.specs.declared.types.Answer.the-variants.{Found, Refused}
 use Rattle.paths.proofs.PathLaws.{name-told, number-told}
 use Rattle.paths.proofs.Checking.{read-name, read-number, fits-fine}
-use Rattle.query.proofs.Inside.{Within, step-in}
+use Rattle.query.proofs.Inside.{InRecord, step-in}
 
 pub record Going (text words : List ℕ) (s : Shape) (path : List ℕ) (from to a e at k : ℕ) : Type 0 where
   pub fuel : ℕ
@@ -56,7 +57,7 @@ going-start {text} {words} {s} {path} {from} {to} o i h =
   where
     starts : {ss : List Selector} (b : Bool) → pick b (readFrom (length path) path 1) (bad 0) ≡ good ss → readFrom (length path) path 1 ≡ good ss
     starts true e = e
-    starts false e = absurd (let z : _≡_ {A = ℕ} 0 1 = cc in omega arith)
+    starts false e = impossible (cc)
 
 -- ---- one selector
 
@@ -69,17 +70,17 @@ record Next (path : List ℕ) (x : ℕ) (one : Selector) (left : List Selector) 
 
 next : {path : List ℕ} {x : ℕ} {one : Selector} {left : List Selector} (c : ℕ) (r : Reading) → readFrom c path x ≡ r → before one r ≡ good left → Next path x one left
 next c (good ss) q e = record { fuel = c; rest = ss; is = cc; reads = q }
-next c (bad p) q e = absurd (let z : _≡_ {A = ℕ} 0 1 = cc in omega arith)
+next c (bad p) q e = impossible (cc)
 
 next-name : {path : List ℕ} (at : ℕ) {b f x : ℕ} {left : List Selector} (c : ℕ) → readFrom c path at ≡ good left → stepAt path at ≡ Kind.Name b f x
     → Next path x (name (between (byteIn path) b f)) left
 unfolding readFrom
-next-name at zero r e = absurd (let z : _≡_ {A = ℕ} 0 1 = cc in omega arith)
+next-name at zero r e = impossible (cc)
 next-name {path} at {b} {f} {x} (suc c) r e = next c (readFrom c path x) refl (sym (read-name path at c e) ∙ r)
 
 next-number : {path : List ℕ} (at : ℕ) {v x : ℕ} {left : List Selector} (c : ℕ) → readFrom c path at ≡ good left → stepAt path at ≡ Kind.Number v x → Next path x (number v) left
 unfolding readFrom
-next-number at zero r e = absurd (let z : _≡_ {A = ℕ} 0 1 = cc in omega arith)
+next-number at zero r e = impossible (cc)
 next-number {path} at {v} {x} (suc c) r e = next c (readFrom c path x) refl (sym (read-number path at c e) ∙ r)
 
 large-first : (v : ℕ) (ss : List Selector) → large (number v ∷ ss) ≡ false → v ≤ 16777215
@@ -96,7 +97,7 @@ large-rest (name n) ss e = e
 large-rest (number v) ss e = or-right (ltb 16777215 v) (large ss) e
   where
     or-right : (a b : Bool) → (a || b) ≡ false → b ≡ false
-    or-right true b e = absurd (let z : _≡_ {A = ℕ} 0 1 = cc in omega arith)
+    or-right true b e = impossible (cc)
     or-right false b e = e
 
 -- ---- the ways on
@@ -110,7 +111,7 @@ module _ {text words : List ℕ} {s : Shape} {path : List ℕ} {from to a e at k
     found : {b f : ℕ} → stepBy (byteIn text) (lent words (s .levels) (s .width)) k one a e ≡ Found b f → Going text words s path from to b f x (k + 1)
     unfolding walkFrom
     found {b} {f} q =
-        let i = subst (Within (length text)) q (step-in (byteIn text) (lent words (s .levels) (s .width)) (length text) k one a e (g .inside)) in
+        let i = subst (InRecord (length text)) q (step-in (byteIn text) (lent words (s .levels) (s .width)) (length text) k one a e (g .inside)) in
         record {
           fuel = n .fuel;
           left = n .rest;
@@ -169,9 +170,9 @@ module _ {text words : List ℕ} {s : Shape} {path : List ℕ} {from to a e at k
   unfolding readFrom walkFrom told
   stop-end no-name no-number ss r = g .same ss r ∙ ap (λ (l : List Selector). walkFrom (byteIn text) (lent words (s .levels) (s .width)) k l a e) (none (g .fuel) (g .reads) (stepAt path at) refl)
     where
-      none : (c : ℕ) → readFrom c path at ≡ good (g .left) → (st : Step) → stepAt path at ≡ st → g .left ≡ []
-      none zero r st q = absurd (let z : _≡_ {A = ℕ} 0 1 = cc in omega arith)
+      none : (c : ℕ) → readFrom c path at ≡ good (g .left) → (st : PathStep) → stepAt path at ≡ st → g .left ≡ []
+      none zero r st q = impossible (cc)
       none (suc c) r (Kind.Name b f x) q = absurd (no-name b f x (ap told q))
       none (suc c) r (Kind.Number v x) q = absurd (no-number (min v 16777216) x (ap told q))
       none (suc c) r Kind.End q = let e : _≡_ {A = Reading} (good []) (good (g .left)) = rw q at r in cc
-      none (suc c) r (Kind.Refused p) q = let e : _≡_ {A = Reading} (bad p) (good (g .left)) = rw q at r in absurd (let z : _≡_ {A = ℕ} 0 1 = cc in omega arith)
+      none (suc c) r (Kind.Refused p) q = let e : _≡_ {A = Reading} (bad p) (good (g .left)) = rw q at r in impossible (cc)

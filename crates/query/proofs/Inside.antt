@@ -30,8 +30,8 @@ WithinItem n (Items.Found s e) = (s < e) × (e ≤ n)
 WithinItem n Items.Other = Unit {0}
 WithinItem n (Items.Broken why) = Unit {0}
 
-abbrev pub Within : ℕ → Answer → Type 0
-Within n r = onFound r (λ s e. (s < e) × (e ≤ n)) (λ why. Unit {0})
+abbrev pub InRecord : ℕ → Answer → Type 0
+InRecord n r = onFound r (λ s e. (s < e) × (e ≤ n)) (λ why. Unit {0})
 
 -- ---- items
 
@@ -82,42 +82,42 @@ itemNo-in byte comma n (suc m) a e h l =
 
 -- ---- steps
 
-pub of-in : (n : ℕ) (none : Refusal) (it : Item) → WithinItem n it → Within n (ofItem none it)
+pub of-in : (n : ℕ) (none : Refusal) (it : Item) → WithinItem n it → InRecord n (ofItem none it)
 of-in n none (Items.Found s e) i = i
 of-in n none Items.Other i = tt
 of-in n none (Items.Broken why) i = tt
 
 module _ (byte : ℕ → ℕ) (bits : Bits) (n : ℕ) where
-  pub name-in : (k : ℕ) (m : List ℕ) (a e : ℕ) → e ≤ n → Within n (nameStep byte bits k m a e)
+  pub name-in : (k : ℕ) (m : List ℕ) (a e : ℕ) → e ≤ n → InRecord n (nameStep byte bits k m a e)
   unfolding nameStep items
   name-in k m a e h =
-      pick-ind (Within n) (framed byte 123 125 a e) _ _
+      pick-ind (InRecord n) (framed byte 123 125 a e) _ _
       (λ q. let l = framed-long byte 123 125 a e q in
-      pick-ind (Within n) (filled byte a e) _ _
+      pick-ind (InRecord n) (filled byte a e) _ _
       (λ _. of-in n NoName (items (itemAt byte bits k m) (bits .comma k) (a + 1) (e - 1))
       (items-in (itemAt byte bits k m) (bits .comma k) n (λ b f i. item-in byte bits k m b f n i) (suc (e - 1 - (a + 1))) (a + 1) (e - 1) (omega arith) (omega arith)))
       (λ _. tt))
       (λ _. tt)
 
-  pub number-in : (k m a e : ℕ) → e ≤ n → Within n (numberStep byte bits k m a e)
+  pub number-in : (k m a e : ℕ) → e ≤ n → InRecord n (numberStep byte bits k m a e)
   unfolding numberStep
   number-in k m a e h =
-      pick-ind (Within n) (framed byte 91 93 a e) _ _
+      pick-ind (InRecord n) (framed byte 91 93 a e) _ _
       (λ q. let l = framed-long byte 91 93 a e q in
-      pick-ind (Within n) (filled byte a e) _ _
+      pick-ind (InRecord n) (filled byte a e) _ _
       (λ _. of-in n NoNumber (itemNo byte (bits .comma k) m (a + 1) (e - 1)) (itemNo-in byte (bits .comma k) n m (a + 1) (e - 1) (omega arith) (omega arith)))
       (λ _. tt))
       (λ _. tt)
 
-  pub step-in : (k : ℕ) (s : Selector) (a e : ℕ) → e ≤ n → Within n (stepBy byte bits k s a e)
+  pub step-in : (k : ℕ) (s : Selector) (a e : ℕ) → e ≤ n → InRecord n (stepBy byte bits k s a e)
   step-in k (name m) a e h = name-in k m a e h
   step-in k (number m) a e h = number-in k m a e h
 
-  on-in : (r : Answer) (go : ℕ → ℕ → Answer) → Within n r → ((b f : ℕ) → b < f → f ≤ n → Within n (go b f)) → Within n (onFound r go Refused)
+  on-in : (r : Answer) (go : ℕ → ℕ → Answer) → InRecord n r → ((b f : ℕ) → b < f → f ≤ n → InRecord n (go b f)) → InRecord n (onFound r go Refused)
   on-in (Found b f) go i h = h b f (i .0) (i .1)
   on-in (Refused why) go i h = tt
 
-  walkFrom-in : (k : ℕ) (ss : List Selector) (a e : ℕ) → a < e → e ≤ n → Within n (walkFrom byte bits k ss a e)
+  walkFrom-in : (k : ℕ) (ss : List Selector) (a e : ℕ) → a < e → e ≤ n → InRecord n (walkFrom byte bits k ss a e)
   unfolding walkFrom
   walkFrom-in k [] a e l h = (l, h)
   walkFrom-in k (s ∷ ss) a e l h =
@@ -125,7 +125,7 @@ module _ (byte : ℕ → ℕ) (bits : Bits) (n : ℕ) where
 
 -- ---- the walk, and the answer
 
-pub walk-in : (text : List ℕ) (bits : Bits) (ss : List Selector) → Within (length text) (walk text bits ss)
+pub walk-in : (text : List ℕ) (bits : Bits) (ss : List Selector) → InRecord (length text) (walk text bits ss)
 unfolding walk
 walk-in text bits ss =
     let n = length text in
@@ -134,18 +134,18 @@ walk-in text bits ss =
     (λ b f i j. walkFrom-in (byteIn text) bits n 1 ss b f i j)
 
 -- a found part "has at least one byte", and lies inside the record
-pub answer-in : (text words : List ℕ) (levels : ℕ) (path : List ℕ) → Within (length text) (answerOf text words levels path)
+pub answer-in : (text words : List ℕ) (levels : ℕ) (path : List ℕ) → InRecord (length text) (answerOf text words levels path)
 unfolding answerOf
 answer-in text words levels path =
-    let P = Within (length text) in
+    let P = InRecord (length text) in
     pick-ind P (eqb (length text) 0) (Refused EmptyRecord) _ (λ _. tt) (λ _.
     pick-ind P (ltb 16777216 (length text)) (Refused LongRecord) _ (λ _. tt) (λ _.
     pick-ind P (not (leb 1 levels && leb levels 16)) (Refused BadLevels) _ (λ _. tt) (λ _.
     pick-ind P (not (eqb (length words) (sizeOf levels (length text)))) (Refused BadBuffer) _ (λ _. tt) (λ _.
     pick-ind P (ltb 1024 (length path)) (Refused TooLarge) _ (λ _. tt) (λ _. go (readPath path))))))
   where
-    go : (r : Reading) → Within (length text) (afterReading text words levels r)
+    go : (r : Reading) → InRecord (length text) (afterReading text words levels r)
     go (bad p) = tt
     go (good ss) =
-        pick-ind (Within (length text)) (large ss) (Refused TooLarge) _ (λ _. tt) (λ _.
-        pick-ind (Within (length text)) (ltb levels (length ss)) (Refused TooDeep) _ (λ _. tt) (λ _. walk-in text (lent words levels (widthOf (length text))) ss))
+        pick-ind (InRecord (length text)) (large ss) (Refused TooLarge) _ (λ _. tt) (λ _.
+        pick-ind (InRecord (length text)) (ltb levels (length ss)) (Refused TooDeep) _ (λ _. tt) (λ _. walk-in text (lent words levels (widthOf (length text))) ss))

@@ -1,7 +1,7 @@
 -- Laws, for the functions' proofs and for the crates above.
 pub mod Standing
 pub mod Lents
-pub mod Names
+pub mod Comparing
 pub mod ItemLaws
 pub mod Walking
 pub mod Inside

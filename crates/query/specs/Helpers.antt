@@ -20,7 +20,7 @@ pub record Readable (s : Shape) (m : Map) (e : ℕ) : Type 0 where
   pub inside : e ≤ 64 * s .width
 
 -- the words are those of the record
-pub record Lent (text words : List ℕ) (s : Shape) : Type 0 where
+pub record Shaped (text words : List ℕ) (s : Shape) : Type 0 where
   pub levels : s .levels ≤ 16
   pub width : s .width ≤ 262144
   pub long : Long words s

@@ -2,4 +2,5 @@ pub mod Items
 pub mod Helpers
 pub mod Walk
 pub mod Answers
+pub mod Outcomes
 pub mod Conditions

@@ -8,7 +8,7 @@ ghost use mathlib.Core.Path.{_≡_};
 ghost use Prim.Native.Nat.{_+_, _≤_, _<_};
 ghost use lib.ListN.{length};
 ghost use Rattle.rules.specs.Layout.{bitIn, quotes, commas};
-ghost use Rattle.query.specs.Helpers.{Lent, Readable, Long};
+ghost use Rattle.query.specs.Helpers.{Shaped, Readable, Long};
 ghost use Rattle.paths.specs.Places.{byteIn, between};
 ghost use Rattle.query.specs.Items.{lent, valueAt, same, quoted, keyed, itemAt, items, itemNo};
 
@@ -83,7 +83,7 @@ fn keyed_item(
     d: usize,
     e: usize,
 ) -> Item
-    requires { ⌜ Lent (now text) (now words) s ⌝ }
+    requires { ⌜ Shaped (now text) (now words) s ⌝ }
     requires { ⌜ (a ≤ d) × (d < e) × (e ≤ length (now text)) × (b ≤ f) × (f ≤ length (now path)) ⌝ }
     ensures { λ r. ⌜ r ≡ keyed (byteIn (now (text .entry))) (bitIn (now (words .entry)) (s .levels) (s .width) quotes) (between (byteIn (now (path .entry))) b f) a d e ⌝ }
 {
@@ -111,7 +111,7 @@ fn item_of(
     a: usize,
     e: usize,
 ) -> Item
-    requires { ⌜ Lent (now text) (now words) s ⌝ }
+    requires { ⌜ Shaped (now text) (now words) s ⌝ }
     requires { ⌜ (1 ≤ k) × (k ≤ s .levels) ⌝ }
     requires { ⌜ (a ≤ e) × (e ≤ length (now text)) × (b ≤ f) × (f ≤ length (now path)) ⌝ }
     ensures { λ r. ⌜ r ≡ itemAt (byteIn (now (text .entry))) (lent (now (words .entry)) (s .levels) (s .width)) k (between (byteIn (now (path .entry))) b f) a e ⌝ }
@@ -136,7 +136,7 @@ pub fn find_name(
     lo: usize,
     hi: usize,
 ) -> Item
-    requires { ⌜ Lent (now text) (now words) s ⌝ }
+    requires { ⌜ Shaped (now text) (now words) s ⌝ }
     requires { ⌜ (1 ≤ k) × (k ≤ s .levels) ⌝ }
     requires { ⌜ (lo < hi) × (hi ≤ length (now text)) × (b ≤ f) × (f ≤ length (now path)) ⌝ }
     ensures { λ r. ⌜ r ≡ items (itemAt (byteIn (now (text .entry))) (lent (now (words .entry)) (s .levels) (s .width)) k (between (byteIn (now (path .entry))) b f)) (bitIn (now (words .entry)) (s .levels) (s .width) (commas k)) lo hi ⌝ }
@@ -172,7 +172,7 @@ pub fn find_name(
 
 // The item of level k that begins at start.
 fn item_from(text: &[u8], words: &[u64], s: Shape, k: usize, start: usize, hi: usize) -> Item
-    requires { ⌜ Lent (now text) (now words) s ⌝ }
+    requires { ⌜ Shaped (now text) (now words) s ⌝ }
     requires { ⌜ (1 ≤ k) × (k ≤ s .levels) ⌝ }
     requires { ⌜ (start ≤ hi) × (hi ≤ length (now text)) ⌝ }
     ensures { λ r. ⌜ r ≡ itemNo (byteIn (now (text .entry))) (bitIn (now (words .entry)) (s .levels) (s .width) (commas k)) 0 start hi ⌝ }
@@ -191,7 +191,7 @@ pub fn item_no(
     lo: usize,
     hi: usize,
 ) -> Item
-    requires { ⌜ Lent (now text) (now words) s ⌝ }
+    requires { ⌜ Shaped (now text) (now words) s ⌝ }
     requires { ⌜ (1 ≤ k) × (k ≤ s .levels) ⌝ }
     requires { ⌜ (lo ≤ hi) × (hi ≤ length (now text)) ⌝ }
     ensures { λ r. ⌜ r ≡ itemNo (byteIn (now (text .entry))) (bitIn (now (words .entry)) (s .levels) (s .width) (commas k)) m lo hi ⌝ }

@@ -3,9 +3,7 @@ use layout::size_of;
 use layout::width_of;
 use types::Answer;
 use types::Refusal;
-ghost use mathlib.Core.Path.{_≡_};
-ghost use Prim.Native.Nat.{_+_};
-ghost use Rattle.query.specs.Answers.{answerOf, numberOf, placeOf, startOf, partOf, refusalNumber, refusalPlace};
+ghost use Rattle.query.specs.Outcomes.{AnswerGives, QueryGives};
 
 mod bits;
 mod blanks;
@@ -15,7 +13,7 @@ mod walk;
 
 // What a path selects in a record, by the words lent with it. Any record, words, levels and path.
 pub fn answer(text: &[u8], words: &[u64], levels: usize, path: &[u8]) -> Answer
-    ensures { λ r. ⌜ r ≡ answerOf (now (text .entry)) (now (words .entry)) levels (now (path .entry)) ⌝ }
+    ensures { λ r. ⌜ AnswerGives (now (text .entry)) (now (words .entry)) levels (now (path .entry)) r ⌝ }
 {
     if text.len() == 0 {
         return Answer::Refused(Refusal::EmptyRecord);
@@ -42,34 +40,6 @@ pub fn answer(text: &[u8], words: &[u64], levels: usize, path: &[u8]) -> Answer
     }
 }
 
-fn number_of(r: Refusal) -> u64
-    ensures { λ n. ⌜ n ≡ refusalNumber r ⌝ }
-{
-    match r {
-        Refusal::EmptyRecord => 1,
-        Refusal::LongRecord => 2,
-        Refusal::BadLevels => 3,
-        Refusal::BadBuffer => 4,
-        Refusal::BadPath { place: _ } => 20,
-        Refusal::TooLarge => 21,
-        Refusal::TooDeep => 22,
-        Refusal::NotObject => 23,
-        Refusal::NotArray => 24,
-        Refusal::NoName => 25,
-        Refusal::NoNumber => 26,
-        Refusal::Broken(_) => 27,
-    }
-}
-
-fn place_of(r: Refusal) -> usize
-    ensures { λ n. ⌜ n ≡ refusalPlace r ⌝ }
-{
-    match r {
-        Refusal::BadPath { place } => place,
-        _ => 0,
-    }
-}
-
 // The part of the lent record itself that a path selects, the empty part at its start on refusal; and the number and place.
 pub fn query<'a>(
     text: &'a [u8],
@@ -79,23 +49,13 @@ pub fn query<'a>(
     number: &mut u64,
     place: &mut usize,
 ) -> &'a [u8]
-    ensures { λ r. ⌜ now r ≡ partOf (now (text .entry)) (answerOf (now (text .entry)) (now (words .entry)) levels (now (path .entry))) ⌝ }
-    ensures { λ r. ⌜ r .ptr .0 ≡ text .entry .ptr .0 ⌝ }
-    ensures { λ r. ⌜ r .ptr .1 ≡ startOf (answerOf (now (text .entry)) (now (words .entry)) levels (now (path .entry))) + text .entry .ptr .1 ⌝ }
-    ensures { λ r. ⌜ now (number .exit) ≡ numberOf (answerOf (now (text .entry)) (now (words .entry)) levels (now (path .entry))) ⌝ }
-    ensures { λ r. ⌜ now (place .exit) ≡ placeOf (answerOf (now (text .entry)) (now (words .entry)) levels (now (path .entry))) ⌝ }
+    ensures { λ r. ⌜ QueryGives (now (text .entry)) (now (words .entry)) levels (now (path .entry)) (text .entry .ptr .0) (text .entry .ptr .1) (now r) (r .ptr .0) (r .ptr .1) (now (number .exit)) (now (place .exit)) ⌝ }
 {
     let told = answer(text, words, levels, path);
+    *number = told.number();
+    *place = told.place();
     match told {
-        Answer::Found { start, end } => {
-            *number = 0;
-            *place = start;
-            &text[start..end]
-        }
-        Answer::Refused(why) => {
-            *number = number_of(why);
-            *place = place_of(why);
-            &text[..0]
-        }
+        Answer::Found { start, end } => &text[start..end],
+        Answer::Refused(_) => &text[..0],
     }
 }

@@ -6,13 +6,13 @@ use crate::items::Item;
 use crate::types::Answer;
 use crate::types::Cause;
 use crate::types::Refusal;
-use paths::Step;
+use paths::PathStep;
 ghost use mathlib.Core.Path.{_≡_};
 ghost use mathlib.Core.List.{List};
 ghost use Prim.Native.Nat.{_+_, _<_, _≤_};
 ghost use lib.ListN.{length};
 ghost use Rattle.paths.specs.Helpers.{pathCheck};
-ghost use Rattle.query.specs.Helpers.{Lent};
+ghost use Rattle.query.specs.Helpers.{Shaped};
 ghost use Rattle.paths.specs.declared.Checked.the-variants.{Fine};
 ghost use Rattle.paths.specs.Grammar.{Selector};
 ghost use Rattle.paths.specs.Path.{readPath, good};
@@ -54,7 +54,7 @@ fn name_step(
     a: usize,
     e: usize,
 ) -> Answer
-    requires { ⌜ Lent (now text) (now words) s ⌝ }
+    requires { ⌜ Shaped (now text) (now words) s ⌝ }
     requires { ⌜ (1 ≤ k) × (k ≤ s .levels) ⌝ }
     requires { ⌜ (a ≤ e) × (e ≤ length (now text)) × (b ≤ f) × (f ≤ length (now path)) ⌝ }
     ensures { λ r. ⌜ r ≡ nameStep (byteIn (now (text .entry))) (lent (now (words .entry)) (s .levels) (s .width)) k (between (byteIn (now (path .entry))) b f) a e ⌝ }
@@ -83,7 +83,7 @@ fn number_step(
     a: usize,
     e: usize,
 ) -> Answer
-    requires { ⌜ Lent (now text) (now words) s ⌝ }
+    requires { ⌜ Shaped (now text) (now words) s ⌝ }
     requires { ⌜ (1 ≤ k) × (k ≤ s .levels) ⌝ }
     requires { ⌜ (a ≤ e) × (e ≤ length (now text)) ⌝ }
     ensures { λ r. ⌜ r ≡ numberStep (byteIn (now (text .entry))) (lent (now (words .entry)) (s .levels) (s .width)) k m a e ⌝ }
@@ -104,7 +104,7 @@ fn number_step(
 
 // All steps of a path that was checked, from the value of `$` on.
 fn walk_path(text: &[u8], words: &[u64], s: Shape, path: &[u8], from: usize, to: usize) -> Answer
-    requires { ⌜ Lent (now text) (now words) s ⌝ }
+    requires { ⌜ Shaped (now text) (now words) s ⌝ }
     requires { ⌜ (from ≤ to) × (to ≤ length (now text)) ⌝ }
     requires { ⌜ pathCheck (now path) (s .levels) ≡ Fine ⌝ }
     ensures { λ r. ⌜ ((ss : List Selector) → readPath (now (path .entry)) ≡ good ss → r ≡ walkFrom (byteIn (now (text .entry))) (lent (now (words .entry)) (s .levels) (s .width)) 1 ss from to) ⌝ }
@@ -115,13 +115,13 @@ fn walk_path(text: &[u8], words: &[u64], s: Shape, path: &[u8], from: usize, to:
     let mut k: usize = 1;
     loop {
         let step = paths::read_step(path, at);
-        let Step::Name {
+        let PathStep::Name {
             start: b,
             end: f,
             next: after,
         } = step
         else {
-            let Step::Number {
+            let PathStep::Number {
                 value: m,
                 next: behind,
             } = step
@@ -151,7 +151,7 @@ fn walk_path(text: &[u8], words: &[u64], s: Shape, path: &[u8], from: usize, to:
 
 // The whole walk.
 pub fn walk_record(text: &[u8], words: &[u64], s: Shape, path: &[u8]) -> Answer
-    requires { ⌜ Lent (now text) (now words) s ⌝ }
+    requires { ⌜ Shaped (now text) (now words) s ⌝ }
     requires { ⌜ pathCheck (now path) (s .levels) ≡ Fine ⌝ }
     ensures { λ r. ⌜ ((ss : List Selector) → readPath (now (path .entry)) ≡ good ss → r ≡ walk (now (text .entry)) (lent (now (words .entry)) (s .levels) (s .width)) ss) ⌝ }
 {

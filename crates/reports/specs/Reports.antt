@@ -23,7 +23,7 @@ record Value : Type 0 where
   value : ℕ
 
 -- a path is answered with this number, and this part
-record Asked : Type 0 where
+record PathRow : Type 0 where
   path : List ℕ
   number : ℕ
   start : ℕ
@@ -34,7 +34,7 @@ record Report : Type 0 where
   levels : ℕ
   verdict : Verdict
   words : List Value
-  paths : List Asked
+  paths : List PathRow
 
 agrees : Verdict → Verdict → Bool
 agrees sound sound = true
@@ -46,11 +46,11 @@ holds : List ℕ → ℕ → ℕ → List Value → Bool
 holds words levels width [] = true
 holds words levels width (v ∷ vs) = eqb (getD words (address levels width (v .of) (v .at)) 0) (v .value) && holds words levels width vs
 
-tells : Asked → Answer → Bool
+tells : PathRow → Answer → Bool
 tells a r = eqb (numberOf r) (a .number) && (eqb (startOf r) (a .start) && eqb (endOf r) (a .end))
 
 -- by the words of the definition's own index
-answers : List ℕ → ℕ → List Asked → Bool
+answers : List ℕ → ℕ → List PathRow → Bool
 unfolding tells
 answers text levels [] = true
 answers text levels (a ∷ rest) = tells a (answerOf text (index text levels) levels (a .path)) && answers text levels rest
@@ -61,10 +61,10 @@ right r =
     agrees (faultOf (r .text)) (r .verdict)
     && (holds (index (r .text) (r .levels)) (r .levels) (widthOf (length (r .text))) (r .words) && answers (r .text) (r .levels) (r .paths))
 
-every : List Report → Bool
+allRight : List Report → Bool
 unfolding right
-every [] = true
-every (r ∷ rs) = right r && every rs
+allRight [] = true
+allRight (r ∷ rs) = right r && allRight rs
 
 table : List Report
 table =
@@ -133,6 +133,6 @@ table =
     (record { text = 123 ∷ 93 ∷ []; levels = 1; verdict = sound; words = []; paths = [] }) ∷
     []
 
-reports : T (every table)
-unfolding every table odd count word wordAt bit is has runBefore escaped quoteBit inString maskBit plain opener closer atDepth levelBit closesNone opensOver atEnd faultFrom faultOf widthOf sizeOf row bitmapOf address cell bitIn bitOf listed laid index byteIn firstIn firstAt pastLastIn pastLast isBlank valueAt same quoted keyed itemAt itemsIn items itemNo isDigit isHead isTail decimal stepAt readFrom readPath large framed filled nameStep numberStep walkFrom walk answerOf
+reports : T (allRight table)
+unfolding allRight table odd count word wordAt bit is has runBefore escaped quoteBit inString maskBit plain opener closer atDepth levelBit closesNone opensOver atEnd faultFrom faultOf widthOf sizeOf row bitmapOf address cell bitIn bitOf listed laid index byteIn firstIn firstAt pastLastIn pastLast isBlank valueAt same quoted keyed itemAt itemsIn items itemNo isDigit isHead isTail decimal stepAt readFrom readPath large framed filled nameStep numberStep walkFrom walk answerOf
 reports = tt

@@ -15,7 +15,7 @@ use Rattle.rules.specs.Word.{pick, xor, odd, count}
 use Rattle.rules.specs.Bytes.{opens, closes, has}
 use Rattle.rules.specs.Bits.{inString, maskBit, plain, opener, closer, atDepth}
 use Rattle.rules.specs.Faults.{sound, atEnd, faultFrom, faultOf}
-use Rattle.rules.proofs.Booleans.{bool2}
+use Rattle.rules.proofs.Booleans.{impossible, bool2}
 use Rattle.rules.proofs.Counting.{count-cat}
 use Rattle.rules.proofs.RuleLaws.{inString-add, plain-apart}
 use Rattle.index.specs.declared.Fault.{Fault}
@@ -85,7 +85,7 @@ seek-ext o c p q (suc m) d i h =
     ∙ ap₂ (λ (x y : Bool). pick (x || y) (pick (eqb d (limitOf x)) (At (faultOfBracket x i)) (seek p q (depthPast x d) (suc i) m)) (seek p q d (suc i) m)) (here .0) (here .1)
 
 on-at : {A : Type 0} {d : ℕ} {f : Fault} (s : Sought) → s ≡ On d → s ≡ At f → A
-on-at s p q = let z : _≡_ {A = ℕ} 0 1 = cc in absurd (omega arith)
+on-at s p q = impossible (cc)
 
 -- what the walk of the chunk says of the record: m places from a on, of which those behind the end have no brackets
 pub data Meets (text : List ℕ) (d a m : ℕ) : Type 0 where

@@ -13,6 +13,7 @@ use Rattle.rules.specs.Word.{pick, odd, count}
 use Rattle.rules.specs.Bits.{inString}
 use Rattle.rules.specs.Faults.{sound, atEnd, faultFrom, faultOf}
 use Rattle.rules.specs.Layout.{Bitmap, widthOf, sizeOf, Has, cell}
+use Rattle.rules.proofs.Booleans.{impossible}
 use Rattle.index.specs.declared.Answer.the-variants.{Done}
 use Rattle.index.specs.declared.Fault.{Fault}
 use Rattle.index.specs.declared.Job.{Job}
@@ -22,7 +23,7 @@ use Rattle.chunks.specs.Writing.{marksTill, levelsTill, rewritten}
 use Rattle.chunks.specs.Sweeping.{scanWord, scanWords}
 use Rattle.index.specs.Scanning.{scanChunk}
 use Rattle.chunks.specs.Flipping.{flipWord, flipWords}
-use Rattle.index.specs.Settling.{insideOf, startOf, guessWrong, settleWords, settleChunk, announced, soughtFault, endFault, chunkFault, foundJob, foundBy}
+use Rattle.index.specs.Settling.{insideOf, startDepth, guessWrong, settleWords, settleChunk, announced, soughtFault, endFault, chunkFault, foundJob, foundBy}
 use Rattle.chunks.specs.Levels.{levelWord, levelWords}
 use Rattle.index.specs.Levelling.{levelChunk}
 use Rattle.index.proofs.CheckLaws.{Accepted, accepted, span-within}
@@ -37,10 +38,10 @@ use Rattle.runs.proofs.Steps.{clash, both, unsettled, scan-ok, settle-b
 use Rattle.runs.proofs.Good.{Good, good-step}
 
 never : {A : Type 0} {s : State} {f : Fault} → s ≡ Open → s ≡ Stopped f → A
-never p q = let z : _≡_ {A = ℕ} 0 1 = cc in absurd (omega arith)
+never p q = impossible (cc)
 
 not-closed : {s : State} → s ≡ Open → s ≡ Closed → ⊥
-not-closed p q = let z : _≡_ {A = ℕ} 0 1 = cc in omega arith
+not-closed p q = impossible (cc)
 
 -- words written over are as many, and elsewhere as they were
 module _ (text words : List ℕ) (levels : ℕ) (long : length words ≡ sizeOf levels (length text)) (s : Span) (till : Bitmap → ℕ) (f : Bitmap → ℕ → ℕ) (within : (b : Bitmap) → till b ≤ s .to) where
@@ -54,13 +55,13 @@ module _ (text words : List ℕ) (levels : ℕ) (long : length words ≡ sizeOf 
   elsewhere b h w l (inr p) = cell-out levels (widthOf (length text)) till (s .from) f words b h w l (inr (le-trans (within b) p))
 
 nothing-here : {A : Type 0} {f : Fault} → Nothing ≡ Here f → A
-nothing-here e = let z : _≡_ {A = ℕ} 0 1 = cc in absurd (omega arith)
+nothing-here e = impossible (cc)
 
 same-fault : {f h : Fault} → Stopped f ≡ Stopped h → f ≡ h
 same-fault e = cc
 
 stopped-closed : {f : Fault} → Stopped f ≡ Closed → ⊥
-stopped-closed e = let z : _≡_ {A = ℕ} 0 1 = cc in omega arith
+stopped-closed e = impossible (cc)
 
 width-past : (n t : ℕ) → t ≡ widthOf n → n ≤ 64 * t
 unfolding widthOf
@@ -166,12 +167,12 @@ module _ {text : List ℕ} {levels : ℕ} {j : Job} {words : List ℕ} (g : Good
     -- the truth at the border
     record Border (m : ℕ) : Type 0 where
       inside-there : insideOf j m ≡ inString text (64 * spanOf j (length text) m .from)
-      depth-there : Depth text (startOf j m) (64 * spanOf j (length text) m .from)
-      shallow-there : startOf j m ≤ 64
+      depth-there : Depth text (startDepth j m) (64 * spanOf j (length text) m .from)
+      shallow-there : startDepth j m ≤ 64
       earlier : faultOf text ≡ faultFrom text (64 * spanOf j (length text) m .from) (length text - 64 * spanOf j (length text) m .from)
 
     border : (m : ℕ) → m < j .count → settledBefore j m ≡ true → Border m
-    unfolding insideOf startOf faultOf spanOf
+    unfolding insideOf startDepth faultOf spanOf
     border zero h p =
         let z : 64 * firstWord j (length text) 0 ≡ 0 = omega (arith, from-zero (g .shape)) in
         record {

@@ -17,7 +17,7 @@ use Rattle.index.specs.Types.{Chunk, State, Open, Stopped, Closed, Span}
 use Rattle.index.specs.Checks.{chunksOf, chunkAt, withChunk, withState, firstWord, isLast, spanOf, settledBefore}
 use Rattle.index.proofs.CheckLaws.{span-within}
 use Rattle.runs.specs.Runs.{verdictOf}
-use Rattle.runs.proofs.Truth.{In, ChunkOk, ok-frame, Clear}
+use Rattle.runs.proofs.Truth.{InSpan, ChunkOk, ok-frame, Clear}
 use Rattle.runs.proofs.Spans.{Shape, apart, chunk-new, chunk-old, span-same, shape-chunk}
 
 pub record Good (text : List ℕ) (levels : ℕ) (j : Job) (words : List ℕ) : Type 0 where
@@ -65,7 +65,7 @@ module _ {text : List ℕ} {levels : ℕ} {j : Job} {words : List ℕ} (g : Good
   at-old P i n p = subst₂ P (sym (chunk-old j (g .shape .room) k few c i n)) (sym (same-span i)) p
 
   -- the words of another chunk are not among those of this one
-  elsewhere : (i : ℕ) → i < j .count → (i ≡ k → ⊥) → (w : ℕ) → In (spanOf j (length text) i) w → (w < spanOf j (length text) k .from) ⊎ (spanOf j (length text) k .to ≤ w)
+  elsewhere : (i : ℕ) → i < j .count → (i ≡ k → ⊥) → (w : ℕ) → InSpan (spanOf j (length text) i) w → (w < spanOf j (length text) k .from) ⊎ (spanOf j (length text) k .to ≤ w)
   unfolding spanOf
   elsewhere i h n w m = go (decLt i k)
     where
@@ -73,7 +73,7 @@ module _ {text : List ℕ} {levels : ℕ} {j : Job} {words : List ℕ} (g : Good
       go (yes b) = inl (omega (arith, apart (g .shape) i k b l, m .1))
       go (no b) = inr (omega (arith, apart (g .shape) k i (omega (arith, n, lt-of-not-le b)) h, m .0))
 
-  in-width : (i : ℕ) (w : ℕ) → In (spanOf j (length text) i) w → w < widthOf (length text)
+  in-width : (i : ℕ) (w : ℕ) → InSpan (spanOf j (length text) i) w → w < widthOf (length text)
   in-width i w m = omega (arith, m .1, span-within j (length text) i .1)
 
   next-ok : (i : ℕ) → i < j .count → ChunkOk text levels (cell after levels (widthOf (length text))) (chunkAt next i) (spanOf next (length text) i)

@@ -10,6 +10,7 @@ use lib.ListN.{length, getD, length-set, length-replicate, getD-replicate}
 use lib.Seq.{getD-set-same, getD-set-other}
 use lib.Dec.{eqb, leb}
 use Rattle.rules.specs.Layout.{Bitmap, widthOf, cell}
+use Rattle.rules.proofs.Booleans.{impossible}
 use Rattle.index.specs.declared.Answer.the-variants.{Done}
 use Rattle.index.specs.declared.Job.{Job}
 use Rattle.index.specs.Types.{Chunk, Span}
@@ -81,7 +82,7 @@ fresh-ok text levels at g s =
     }
   where
     never : {A : Type 0} → false ≡ true → A
-    never e = let z : _≡_ {A = ℕ} 0 1 = cc in absurd (omega arith)
+    never e = impossible (cc)
 
 -- ---- the opening
 
@@ -145,7 +146,7 @@ module _ (text : List ℕ) (levels : ℕ) (cuts words : List ℕ) (accepted : op
       rising (suc k) l = omega (arith, cut-of k (omega arith), cut-of (suc k) (omega arith), rises (length text) cuts k (good-cut (suc k) (omega arith)))
 
   clash : {A : Type 0} (b : Bool) → b ≡ true → b ≡ false → A
-  clash b p q = let z : _≡_ {A = ℕ} 0 1 = cc in absurd (omega arith)
+  clash b p q = impossible (cc)
 
   fresh-good : Good text levels j words
   fresh-good =
@@ -155,8 +156,8 @@ module _ (text : List ℕ) (levels : ℕ) (cuts words : List ℕ) (accepted : op
         front = λ k l e. clash _ e (no-step (suc k) l);
         clear = λ p k l e. clash _ e (no-step k l);
         sound-end = λ p k l e. clash _ e (no-step k (omega (arith, l)));
-        stopped = λ f e. let z : _≡_ {A = ℕ} 0 1 = cc in absurd (omega arith);
-        live = λ e. let z : _≡_ {A = ℕ} 0 1 = cc in omega arith;
+        stopped = λ f e. impossible (cc);
+        live = λ e. impossible (cc);
       }
 
   pub opened-good : Good text levels (opened (length text) (length words) levels cuts .job) words

@@ -10,6 +10,7 @@ use native.Mathlib.Omega.{arith}
 use lib.ListN.{length}
 use Rattle.rules.specs.Word.{digit, pick}
 use Rattle.rules.specs.Faults.{sound, faultOf}
+use Rattle.rules.proofs.Booleans.{impossible}
 use Rattle.index.specs.declared.Answer.the-variants.{Done, Faulty}
 use Rattle.index.specs.declared.Fault.{Fault}
 use Rattle.index.specs.declared.Job.{Job}
@@ -61,7 +62,7 @@ every-all p (suc m) q = ap₂ _&&_ (every-all p m (λ i l. q i (omega arith))) (
 
 module _ {text : List ℕ} {levels : ℕ} {h : Held} (r : Reached text levels h) (o : h .job .state ≡ Open) where
   live : h .job .state ≡ Closed → ⊥
-  live e = let z : _≡_ {A = ℕ} 0 1 = cc in omega arith
+  live e = impossible (cc)
 
   g : Good text levels (h .job) (h .words)
   g = good r live
@@ -105,7 +106,7 @@ module _ {text : List ℕ} {levels : ℕ} {h : Held} (r : Reached text levels h)
 pub stopped-closes : {text : List ℕ} {levels : ℕ} {h : Held} → Reached text levels h → (f : Fault) → h .job .state ≡ Stopped f → answer text close h ≡ Faulty f
 unfolding answer closed
 stopped-closes {text} {levels} {h} r f e =
-    stopped-fault (h .job) (length text) (length (h .words)) f e (lengths-exactly r (λ c. let z : _≡_ {A = ℕ} 0 1 = cc in omega arith) (length text) (length (h .words)) .1 (refl, refl))
+    stopped-fault (h .job) (length text) (length (h .words)) f e (lengths-exactly r (λ c. impossible (cc)) (length text) (length (h .words)) .1 (refl, refl))
 
 -- ---- each accepted step lowers the steps left
 

@@ -13,6 +13,7 @@ use Rattle.rules.specs.Word.{pick, xor}
 use Rattle.rules.specs.Bits.{inString, atDepth}
 use Rattle.rules.specs.Faults.{sound, faulty, closesNone, opensOver, atEnd, faultFrom, faultOf}
 use Rattle.rules.specs.Layout.{mask}
+use Rattle.rules.proofs.Booleans.{impossible}
 use Rattle.index.specs.declared.Answer.the-variants.{Done, Faulty}
 use Rattle.index.specs.declared.Fault.{Fault}
 use Rattle.index.specs.declared.Fault.the-variants.{InString, InBracket}
@@ -21,7 +22,7 @@ use Rattle.index.specs.Types.{Chunk, Span, Open, Closed, Settle, At, Found, Not
 use Rattle.index.specs.Answers.{faultPlace}
 use Rattle.index.specs.Checks.{chunkAt, withChunk, isLast, spanOf, refusal}
 use Rattle.index.specs.Depth.{clampDepth}
-use Rattle.index.specs.Settling.{limitOf, faultOfBracket, depthPast, seek, seekIn, announced, ofSought, soughtFault, endFault, orElse, chunkFault, settleWords, settleChunk, foundBy, foundJob, settled, settledWords}
+use Rattle.index.specs.Settling.{limitOf, faultOfBracket, depthPast, seek, seekIn, announced, ofSought, soughtFault, endFault, orFound, chunkFault, settleWords, settleChunk, foundBy, foundJob, settled, settledWords}
 use Rattle.index.proofs.Cases.{found-case}
 use Rattle.index.proofs.CheckLaws.{accepted}
 use Rattle.index.proofs.NumberLaws.{settle-fault}
@@ -37,7 +38,7 @@ use Rattle.runs.proofs.Progress.{reach-more, settle-live, settle-named}
 -- ---- what settle finds lies in the chunk
 
 no-fault : {A : Type 0} {f : Fault} → Nothing ≡ Here f → A
-no-fault e = let z : _≡_ {A = ℕ} 0 1 = cc in absurd (omega arith)
+no-fault e = impossible (cc)
 
 bracket-place : (b : Bool) (i : ℕ) → faultPlace (faultOfBracket b i) ≡ i
 bracket-place true i = refl
@@ -77,7 +78,7 @@ end-place c n f e = go (xor (c .inside) (c .kept .odd)) (ltb 0 (clampDepth (pos 
 
 found-place : (j : Job) (text words : List ℕ) (k : ℕ) (f : Fault) → foundBy j text words k ≡ Here f → LiesIn j (length text) k (faultPlace f)
 unfolding foundBy chunkFault
-found-place j text words k f e = found-case (λ x. soughtFault c text words (j .levels) s ≡ x → orElse x (pick (isLast j k) (endFault c (length text)) Nothing) ≡ Here f → LiesIn j (length text) k (faultPlace f)) (λ p q. ends (isLast j k) refl q)
+found-place j text words k f e = found-case (λ x. soughtFault c text words (j .levels) s ≡ x → orFound x (pick (isLast j k) (endFault c (length text)) Nothing) ≡ Here f → LiesIn j (length text) k (faultPlace f)) (λ p q. ends (isLast j k) refl q)
     (λ x p q. let r = sought-place c text words (j .levels) s f (p ∙ q) in LiesIn.among (r .0) (r .1)) (soughtFault c text words (j .levels) s) refl e
   where
     c : Chunk
@@ -125,7 +126,7 @@ module _ {text : List ℕ} {levels : ℕ} {h : Held} (r : Reached text levels h)
   o = accepted Settle j (length text) (length (h .words)) k e .opened
 
   unclosed : j .state ≡ Closed → ⊥
-  unclosed c = let p = o in let z : _≡_ {A = ℕ} 0 1 = cc in omega arith
+  unclosed c = let p = o in impossible (cc)
 
   fine : Good text levels j (h .words)
   fine = good r unclosed

@@ -9,6 +9,7 @@ use Rattle.rules.specs.Word.{xor}
 use Rattle.rules.specs.Bits.{quoteBit, inString, maskBit}
 use Rattle.rules.specs.Layout.{quotes, mask, widthOf, cell}
 use Rattle.rules.proofs.WordLaws.{wordAt-ext}
+use Rattle.rules.proofs.Booleans.{impossible}
 use Rattle.index.specs.Types.{Kept}
 use Rattle.index.specs.Types.{Chunk}
 use Rattle.index.specs.declared.Job.{Job}
@@ -20,7 +21,7 @@ use Rattle.chunks.specs.Writing.{levelsTill}
 use Rattle.chunks.specs.Sweeping.{swingBy, scanWords}
 use Rattle.index.specs.Scanning.{oddIn, scanKept, scanChunk}
 use Rattle.chunks.specs.Flipping.{maskIn, flipWords, swingIn}
-use Rattle.index.specs.Settling.{insideOf, startOf, guessWrong, settleWords, settleKept, settleChunk}
+use Rattle.index.specs.Settling.{insideOf, startDepth, guessWrong, settleWords, settleKept, settleChunk}
 use Rattle.chunks.specs.Levels.{levelWords}
 use Rattle.index.specs.Levelling.{levelChunk}
 use Rattle.chunks.proofs.ScanLaws.{swingBy-ext}
@@ -29,7 +30,7 @@ use Rattle.runs.proofs.Truth.{Truth, Holds, ChunkOk}
 use Rattle.runs.proofs.Words.{guess-right, mask-bit, scan-quotes, scan-mask, flip-mask, flip-quotes, level-colons, level-commas, level-marks}
 
 pub clash : {A : Type 0} (b : Bool) → b ≡ true → b ≡ false → A
-clash b p q = let z : _≡_ {A = ℕ} 0 1 = cc in absurd (omega arith)
+clash b p q = impossible (cc)
 
 pub both : (a b : Bool) → (a && b) ≡ true → (a ≡ true) × (b ≡ true)
 both true b p = (refl, p)
@@ -76,7 +77,7 @@ module _ (text : List ℕ) (levels : ℕ) (j : Job) (words : List ℕ) (k : ℕ)
         }
 
     -- ---- settle, with the truth at the border
-    module _ (scanned : c .scanned ≡ true) (unset : c .settled ≡ false) (inside : insideOf j k ≡ inString text (64 * s .from)) (depth : Depth text (startOf j k) (64 * s .from)) (shallow : startOf j k ≤ 64) where
+    module _ (scanned : c .scanned ≡ true) (unset : c .settled ≡ false) (inside : insideOf j k ≡ inString text (64 * s .from)) (depth : Depth text (startDepth j k) (64 * s .from)) (shallow : startDepth j k ≤ 64) where
       abbrev after : List ℕ
       after = settleWords j text words k
 

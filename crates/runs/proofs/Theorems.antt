@@ -14,6 +14,7 @@ use Rattle.rules.specs.Word.{wordAt}
 use Rattle.rules.specs.Faults.{sound, faulty, faultOf}
 use Rattle.rules.specs.Layout.{Bitmap, quotes, mask, colons, commas, widthOf, sizeOf, Has, cell, bitOf, index, Promise}
 use Rattle.rules.proofs.LayoutLaws.{index-only}
+use Rattle.rules.proofs.Booleans.{impossible}
 use Rattle.index.specs.declared.Answer.{Answer}
 use Rattle.index.specs.declared.Answer.the-variants.{Done, Refused, Faulty}
 use Rattle.index.specs.declared.Refusal.the-variants.{IsClosed}
@@ -47,7 +48,7 @@ module _ {text : List ℕ} {levels : ℕ} {h : Held} (r : Reached text levels h)
 
   -- "A stopped job's fault is already that one"
   pub stopped-named : (f : Fault) → h .job .state ≡ Stopped f → faultOf text ≡ verdictOf f
-  stopped-named f e = good (λ c. let z : _≡_ {A = ℕ} 0 1 = cc in omega arith) .stopped f e
+  stopped-named f e = good (λ c. impossible (cc)) .stopped f e
 
   -- once settled, a chunk's inside or outside, its starting depth and what it keeps are those of the rules
   pub border-truth : (h .job .state ≡ Closed → ⊥) → (k : ℕ) → k < h .job .count → chunkAt (h .job) k .settled ≡ true → Truth text (chunkAt (h .job) k) (spanOf (h .job) (length text) k)
@@ -100,15 +101,15 @@ every-one p (suc m) e k l = go (ℕ-discrete k m) (both (every p m) (p m) e) (λ
     go (no n) d rest = rest (omega (arith, n)) (d .0)
 
 ends-no : (a : Answer) → Ends a → a ≡ Refused IsClosed → ⊥
-ends-no a Ends.done q = let z : _≡_ {A = ℕ} 0 1 = cc in omega arith
-ends-no a (Ends.fault f) q = let z : _≡_ {A = ℕ} 0 1 = cc in omega arith
+ends-no a Ends.done q = impossible (cc)
+ends-no a (Ends.fault f) q = impossible (cc)
 
 differ : {A : Type 0} (n m : ℕ) {p q : ℕ} → eqb n m ≡ false → faulty n p ≡ faulty m q → A
 differ n m d e = let same : n ≡ m = cc in absurd (eqb-false n m d same)
 
 pub sound-faulty : {A : Type 0} (f : Fault) → sound ≡ verdictOf f → A
 unfolding verdictOf
-sound-faulty f e = let z : _≡_ {A = ℕ} 0 1 = cc in absurd (omega arith)
+sound-faulty f e = impossible (cc)
 
 -- a closed run: its answer came from a job that was open with all chunks levelled, or stopped
 module _ {text : List ℕ} {levels : ℕ} {a : Answer} {after : List ℕ} (c : ClosedRun text levels a after) where
@@ -250,8 +251,7 @@ faulty-closes {text} {levels} {a} {after} {n} {p} s c = go a (c .ends) c
     go : (a : Answer) → Ends a → ClosedRun text levels a after → (f : Fault) × (a ≡ Faulty f) × (faultNumber f ≡ n) × (faultPlace f ≡ p) × (after ≡ replicate (sizeOf levels (length text)) 0)
     go a Ends.done x =
         let e : sound ≡ faulty n p = sym (done-sound x) ∙ s in
-        let z : _≡_ {A = ℕ} 0 1 = cc in
-        absurd (omega arith)
+        impossible (cc)
     go a (Ends.fault f) x =
         let e : faulty (faultNumber f) (faultPlace f) ≡ faulty n p = sym (fault-named x) ∙ s in
         (f, refl, cc, cc, fault-zeros x)

@@ -18,8 +18,8 @@ use Rattle.index.specs.Scanning.{oddIn, scanKept}
 use Rattle.runs.proofs.Walks.{Depth}
 
 -- a word of the chunk
-abbrev pub In : Span → ℕ → Type 0
-In s w = (s .from ≤ w) × (w < s .to)
+abbrev pub InSpan : Span → ℕ → Type 0
+InSpan s w = (s .from ≤ w) × (w < s .to)
 
 -- the state at the border of a settled chunk, and what it keeps, are those of the rules
 pub record Truth (text : List ℕ) (c : Chunk) (s : Span) : Type 0 where
@@ -31,7 +31,7 @@ pub record Truth (text : List ℕ) (c : Chunk) (s : Span) : Type 0 where
 
 -- the words of the chunk are w by w those of the bitmap p
 abbrev pub Holds : (Bitmap → ℕ → ℕ) → Span → Bitmap → (ℕ → Bool) → Type 0
-Holds g s b p = (w : ℕ) → In s w → g b w ≡ wordAt p w
+Holds g s b p = (w : ℕ) → InSpan s w → g b w ≡ wordAt p w
 
 -- g is what the words hold
 pub record ChunkOk (text : List ℕ) (levels : ℕ) (g : Bitmap → ℕ → ℕ) (c : Chunk) (s : Span) : Type 0 where
@@ -45,7 +45,7 @@ pub record ChunkOk (text : List ℕ) (levels : ℕ) (g : Bitmap → ℕ → ℕ)
   pub comma-ed : c .levelled ≡ true → (k : ℕ) → Has levels (commas k) → Holds g s (commas k) (commaBit text k)
 
 -- other words elsewhere change nothing
-pub ok-frame : {text : List ℕ} {levels : ℕ} {g h : Bitmap → ℕ → ℕ} {c : Chunk} {s : Span} → ((b : Bitmap) → Has levels b → (w : ℕ) → In s w → h b w ≡ g b w)
+pub ok-frame : {text : List ℕ} {levels : ℕ} {g h : Bitmap → ℕ → ℕ} {c : Chunk} {s : Span} → ((b : Bitmap) → Has levels b → (w : ℕ) → InSpan s w → h b w ≡ g b w)
     → ChunkOk text levels g c s → ChunkOk text levels h c s
 ok-frame same ok =
     record {

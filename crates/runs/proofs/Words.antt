@@ -16,6 +16,7 @@ use Rattle.rules.specs.Layout.{Bitmap, quotes, mask, colons, commas, widthOf, H
 use Rattle.rules.proofs.Counting.{count-ext, count-cat}
 use Rattle.rules.proofs.WordLaws.{wordAt-ext, bit-at}
 use Rattle.rules.proofs.LayoutLaws.{Cells, laid-cells}
+use Rattle.rules.proofs.Booleans.{impossible}
 use Rattle.index.specs.Types.{Span}
 use Rattle.blocks.specs.Guessing.{guessed, guessBit}
 use Rattle.chunks.specs.Writing.{over, rewritten, marksTill, levelsTill}
@@ -26,7 +27,7 @@ use Rattle.chunks.specs.Levels.{levelBy, levelWord, levelWords}
 use Rattle.blocks.proofs.MarkLaws.{guessed-true}
 use Rattle.chunks.proofs.WriteLaws.{over-in, over-below, over-above}
 use Rattle.runs.proofs.Walks.{Depth}
-use Rattle.runs.proofs.Truth.{In, Holds}
+use Rattle.runs.proofs.Truth.{InSpan, Holds}
 
 -- ---- any step
 
@@ -64,8 +65,8 @@ unfolding guessBit maskBit
 guess-right text g a e i l = ap (λ (b : Bool). ltb i (length text) && b) (ap (λ (x : Bool). guessed x a text i) e ∙ guessed-true a text i l)
 
 turn-over : (o g s p : Bool) → xor g s ≡ true → xor (p && xor o g) p ≡ (p && xor o s)
-turn-over o true true p e = let z : _≡_ {A = ℕ} 0 1 = cc in absurd (omega arith)
-turn-over o false false p e = let z : _≡_ {A = ℕ} 0 1 = cc in absurd (omega arith)
+turn-over o true true p e = impossible (cc)
+turn-over o false false p e = impossible (cc)
 turn-over true true false true e = refl
 turn-over true true false false e = refl
 turn-over false true false true e = refl
@@ -150,7 +151,7 @@ module _ (text words : List ℕ) (levels : ℕ) (s : Span) (start : ℕ) (t : s 
       (λ e. omega (arith, depth, count-same opens i p (omega arith), count-same closes i p (omega arith))))
 
   -- colons and commas alike
-  level-word : (c : Class) (k w : ℕ) → 1 ≤ k → In s w → wordAt (levelBy by start (64 * s .from) text c k) w ≡ wordAt (levelBit c text k) w
+  level-word : (c : Class) (k w : ℕ) → 1 ≤ k → InSpan s w → wordAt (levelBy by start (64 * s .from) text c k) w ≡ wordAt (levelBit c text k) w
   level-word c zero w h i = absurd (omega arith)
   level-word c (suc k) w h i = wordAt-ext _ _ w (λ b l. level-same c k (64 * w + b) (omega (arith, i)) (omega (arith, i)))
 

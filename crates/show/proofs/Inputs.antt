@@ -9,7 +9,7 @@ use borrow.Author.Tests.{lt-ltb, le-ltb}
 use Rattle.rules.specs.Layout.{listed, widthOf, sizeOf}
 use Rattle.show.specs.Running.{multiples, cutsOf}
 use Rattle.paths.proofs.PlaceLaws.{first-le}
-use Rattle.show.specs.Lines.{isFeed, lineEnd, placed, zeros, lineIn, lineOf, shown}
+use Rattle.show.specs.Printing.{isFeed, pathEnd, placed, zeros, printedIn, printedOf, shown}
 
 -- ---- buffers
 
@@ -49,8 +49,8 @@ pub take-fits : (l : List ℕ) {m k : ℕ} → length l ≡ k → m ≤ k → m 
 take-fits l {m} e h = sym (length-take-le m l (omega (arith, e, h)))
 
 pub lent : (text path : List ℕ) → length text ≤ 16384 → {count size : ℕ} {words cuts : List ℕ} → count ≡ (length text - 1) / 1024 → size ≡ sizeOf 4 (length text) → words ≡ zeros 2560 → cuts ≡ multiples 15
-    → lineIn text (take size words) (take count cuts) path ≡ lineOf text path
-unfolding lineOf cutsOf sizeOf widthOf
+    → printedIn text (take size words) (take count cuts) path ≡ printedOf text path
+unfolding printedOf cutsOf sizeOf widthOf
 lent text path l ec es ew eu =
     rw (ec, es, ew, eu, take-zeros (10 * ((length text + 63) / 64)) 2560 (omega arith), take-multiples ((length text - 1) / 1024) 15 (omega arith))
 
@@ -59,9 +59,9 @@ lent text path l ec es ew eu =
 pub tail : (l : List ℕ) (k : ℕ) → take (length l - k) (drop k l) ≡ drop k l
 tail l k = take-all (length l - k) (drop k l) (omega (arith, length-drop k l))
 
-module _ (input : List ℕ) (at : ℕ) (here : at ≡ lineEnd input) where
+module _ (input : List ℕ) (at : ℕ) (here : at ≡ pathEnd input) where
   pub end-in : at ≤ length input
-  unfolding lineEnd
+  unfolding pathEnd
   end-in = rw here (first-le (isFeed input) 0 (length input) (omega arith))
 
   pub long-path : 1024 < at → placed 21 0 ≡ shown input
@@ -73,12 +73,12 @@ module _ (input : List ℕ) (at : ℕ) (here : at ≡ lineEnd input) where
     unfolding shown
     long-record l = rw (← here, le-ltb 1024 at short, lt-ltb 16384 (length (drop (at + 1) input)) l)
 
-    pub both : length (drop (at + 1) input) ≤ 16384 → lineOf (drop (at + 1) input) (take at input) ≡ shown input
+    pub both : length (drop (at + 1) input) ≤ 16384 → printedOf (drop (at + 1) input) (take at input) ≡ shown input
     unfolding shown
     both l = rw (← here, le-ltb 1024 at short, le-ltb 16384 (length (drop (at + 1) input)) l)
 
     -- "an input without an LF is all path, with an empty record"
-    pub no-record : at ≡ length input → lineOf (drop at input) (take at input) ≡ shown input
+    pub no-record : at ≡ length input → printedOf (drop at input) (take at input) ≡ shown input
     no-record e =
         let none : drop at input ≡ drop (at + 1) input = drop-of-length-le input {i = at} (omega arith) ∙ sym (drop-of-length-le input {i = at + 1} (omega arith)) in
         rw none (both (rw (drop-of-length-le input {i = at + 1} (omega arith)) (omega arith)))

@@ -15,7 +15,7 @@ use Rattle.index.proofs.OpenLaws.{cutBefore, good-cut, if-opened}
 use Rattle.query.specs.Answers.{answerOf}
 use Rattle.runs.proofs.Theorems.{sound-closes, faulty-closes}
 use Rattle.show.specs.Running.{multiples, cutsOf}
-use Rattle.show.specs.Lines.{lineEnd, pathOf, recordOf, placed, queryLine, lineIn, zeros, lineOf, shown}
+use Rattle.show.specs.Printing.{pathEnd, pathOf, recordOf, placed, queryPrinted, printedIn, zeros, printedOf, shown}
 use Rattle.show.proofs.Inputs.{multiples-long, zeros-long, both}
 use Rattle.show.proofs.Whole.{job-run}
 
@@ -52,23 +52,23 @@ opens n some few =
 
 module _ (text path : List ℕ) (some : 1 ≤ length text) (few : length text ≤ 16384) where
   -- "a fault of the record is printed and not the path's refusal": its number, and its place twice
-  pub line-faulty : {n p : ℕ} → faultOf text ≡ faulty n p → lineOf text path ≡ placed n p
-  unfolding lineOf lineIn
+  pub line-faulty : {n p : ℕ} → faultOf text ≡ faulty n p → printedOf text path ≡ placed n p
+  unfolding printedOf printedIn
   line-faulty e =
       let c = faulty-closes e (job-run text (zeros (sizeOf 4 (length text))) (cutsOf (length text)) (opens (length text) some few)) in
       rw (c .1, c .2, c .3)
 
   -- over a sound record the line is the query's, over the index
-  pub line-sound : faultOf text ≡ sound → lineOf text path ≡ queryLine (answerOf text (index text 4) 4 path)
-  unfolding lineOf lineIn
+  pub line-sound : faultOf text ≡ sound → printedOf text path ≡ queryPrinted (answerOf text (index text 4) 4 path)
+  unfolding printedOf printedIn
   line-sound e =
       let c = sound-closes e (job-run text (zeros (sizeOf 4 (length text))) (cutsOf (length text)) (opens (length text) some few)) in
       rw (c .0, c .1)
 
-module _ (input : List ℕ) (short : lineEnd input ≤ 1024) (some : 1 ≤ length (recordOf input)) (few : length (recordOf input) ≤ 16384) where
+module _ (input : List ℕ) (short : pathEnd input ≤ 1024) (some : 1 ≤ length (recordOf input)) (few : length (recordOf input) ≤ 16384) where
   -- the same of what is shown
   pub shown-faulty : {n p : ℕ} → faultOf (recordOf input) ≡ faulty n p → shown input ≡ placed n p
-  shown-faulty e = sym (both input (lineEnd input) refl short few) ∙ line-faulty (recordOf input) (pathOf input) some few e
+  shown-faulty e = sym (both input (pathEnd input) refl short few) ∙ line-faulty (recordOf input) (pathOf input) some few e
 
-  pub shown-sound : faultOf (recordOf input) ≡ sound → shown input ≡ queryLine (answerOf (recordOf input) (index (recordOf input) 4) 4 (pathOf input))
-  shown-sound e = sym (both input (lineEnd input) refl short few) ∙ line-sound (recordOf input) (pathOf input) some few e
+  pub shown-sound : faultOf (recordOf input) ≡ sound → shown input ≡ queryPrinted (answerOf (recordOf input) (index (recordOf input) 4) 4 (pathOf input))
+  shown-sound e = sym (both input (pathEnd input) refl short few) ∙ line-sound (recordOf input) (pathOf input) some few e

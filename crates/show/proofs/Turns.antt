@@ -11,6 +11,7 @@ use Rattle.index.specs.declared.Handed.{Handed}
 use Rattle.index.specs.Scanning.{scanned, scannedWords}
 use Rattle.index.specs.Settling.{settled, settledWords}
 use Rattle.index.specs.Levelling.{levelled, levelledWords}
+use Rattle.index.specs.Outcomes.{ScanGives, SettleGives, LevelGives}
 use Rattle.runs.specs.Runs.{Call, Held, act, run}
 use Rattle.show.specs.Running.{held, scans, finishes}
 
@@ -25,10 +26,10 @@ unfolding scans run act
 scan-one text words j m = refl
 
 pub scan-turn : (text words after : List ℕ) (j : Job) (h : Handed) (k : ℕ) → 0 < k
-    → h ≡ scanned j text (length words) (k - 1) false → after ≡ scannedWords j text words (k - 1) false
+    → ScanGives j text words (k - 1) false h after
     → run text (scans (k - 1)) (held (h .job) after) ≡ run text (scans k) (held j words)
-scan-turn text words after j h k l e f =
-    rw (e, f) (scan-one text words j (k - 1) ∙ ap (λ (n : ℕ). run text (scans n) (held j words)) (omega arith))
+scan-turn text words after j h k l e =
+    rw (e .hands, e .leaves) (scan-one text words j (k - 1) ∙ ap (λ (n : ℕ). run text (scans n) (held j words)) (omega arith))
 
 finish-one : (text words : List ℕ) (j : Job) (k m : ℕ)
     → run text (finishes (k + 1) m)
@@ -39,11 +40,10 @@ unfolding finishes run act
 finish-one text words j k m = rw add-one
 
 pub finish-turn : (text words between after : List ℕ) (j : Job) (s h : Handed) (k chunks : ℕ) → k < chunks
-    → s ≡ settled j text words k → between ≡ settledWords j text words k
-    → h ≡ levelled (s .job) (length text) (length between) k → after ≡ levelledWords (s .job) text between k
+    → SettleGives j text words k s between → LevelGives (s .job) text between k h after
     → run text (finishes (k + 1) (chunks - (k + 1))) (held (h .job) after) ≡ run text (finishes k (chunks - k)) (held j words)
-finish-turn text words between after j s h k chunks l es eb eh ea =
-    rw (eh, ea, eb, es) (finish-one text words j k (chunks - (k + 1)) ∙ ap (λ (n : ℕ). run text (finishes k n) (held j words)) (omega arith))
+finish-turn text words between after j s h k chunks l es eh =
+    rw (eh .hands, eh .leaves, es .leaves, es .hands) (finish-one text words j k (chunks - (k + 1)) ∙ ap (λ (n : ℕ). run text (finishes k n) (held j words)) (omega arith))
 
 -- no call is left
 pub scans-done : (text words : List ℕ) (j : Job) (k : ℕ) → k ≡ 0 → run text (scans k) (held j words) ≡ held j words

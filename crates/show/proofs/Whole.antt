@@ -7,6 +7,7 @@ use mathlib.Core.List.{List, [], _++_}
 use native.Mathlib.Decide.{ℕ-discrete}
 use native.Mathlib.Omega.{arith}
 use lib.ListN.{length}
+use Rattle.rules.proofs.Booleans.{impossible}
 use Rattle.index.specs.declared.Answer.the-variants.{Done}
 use Rattle.index.specs.declared.Fault.{Fault}
 use Rattle.index.specs.Types.{Open, Stopped, Closed, State}
@@ -23,7 +24,7 @@ use Rattle.show.specs.Running.{scans, finishes, ran, jobAnswer, jobWords
 use Rattle.show.proofs.Turns.{run-append}
 
 open-live : {s : State} → s ≡ Open → s ≡ Closed → ⊥
-open-live p q = let z : _≡_ {A = ℕ} 0 1 = cc in omega arith
+open-live p q = impossible (cc)
 
 module _ (text : List ℕ) (levels : ℕ) where
   shape-of : {h : Held} → Reached text levels h → h .job .state ≡ Open → Shape text levels (h .job) (h .words)

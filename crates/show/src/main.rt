@@ -1,8 +1,8 @@
 // Reads a path, LF and a record, and prints the number, start and end of the part that the path selects.
 mod job;
-mod lines;
+mod printing;
 
-fn print(line: lines::Line) {
+fn print(line: printing::Printed) {
     io::print_decimal(1, line.number);
     io::write_all(1, b" ");
     io::print_decimal(1, line.start as u64);
@@ -15,5 +15,5 @@ fn print(line: lines::Line) {
 fn main() {
     let mut input = io::large_buffer();
     let n = io::read_full(0, &mut input);
-    print(lines::shown(&input[..n]));
+    print(printing::shown(&input[..n]));
 }

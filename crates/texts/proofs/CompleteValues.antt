@@ -10,7 +10,7 @@ use borrow.Author.Tests.{ne-eqb, eq-eqb}
 use lib.ListN.{length, length-append}
 use Rattle.texts.specs.Grammar.{Ws, Number, Chars, stringBytes, Text}
 use Rattle.texts.proofs.Padded.{Bare, Pad, Elems, Entry, Entries, bareBytes, padBytes, elemsBytes, entryBytes, entriesBytes, paddedText, text-same-bytes, number-starts}
-use Rattle.texts.proofs.Recogniser.{Rest, within, byte, literal, skip, number, string, Kind, a-value, elements, members, closed, next, rule, read, accepts}
+use Rattle.texts.proofs.Recogniser.{Rest, within, byte, literal, skip, number, string, Kind, a-value, elements, members, closedBy, next, rule, read, accepts}
 use Rattle.texts.proofs.CompleteNumbers.{byte-here, Dark, skip-ws, Delimiter, Follows, low-delimiter, closer-delimiter, ws-ends, number-here}
 use Rattle.texts.proofs.CompleteStrings.{string-here}
 
@@ -59,12 +59,12 @@ value-dark : (v : Bare) (r : List ℕ) → Dark (bareBytes v ++ r)
 value-dark v r = let s = opens v in rw (s .whole) (s .dark)
 
 -- behind the blanks something that is not the closer
-closed-not : (c : ℕ) (f : List ℕ → Rest) (b : ℕ) (bs : List ℕ) → (b ≡ c → ⊥) → closed c f (b ∷ bs) ≡ f (b ∷ bs)
-unfolding closed
-closed-not c f b bs h = rw (ne-eqb b c h) refl
+closedBy-not : (c : ℕ) (f : List ℕ → Rest) (b : ℕ) (bs : List ℕ) → (b ≡ c → ⊥) → closedBy c f (b ∷ bs) ≡ f (b ∷ bs)
+unfolding closedBy
+closedBy-not c f b bs h = rw (ne-eqb b c h) refl
 
-closed-value : (f : List ℕ → Rest) (v : Bare) (r : List ℕ) → closed 0x5D f (bareBytes v ++ r) ≡ f (bareBytes v ++ r)
-closed-value f v r = let s = opens v in rw (s .whole) (closed-not 0x5D f (s .first) (s .rest ++ r) (s .no-end))
+closedBy-value : (f : List ℕ → Rest) (v : Bare) (r : List ℕ) → closedBy 0x5D f (bareBytes v ++ r) ≡ f (bareBytes v ++ r)
+closedBy-value f v r = let s = opens v in rw (s .whole) (closedBy-not 0x5D f (s .first) (s .rest ++ r) (s .no-end))
 
 -- ---- what the parts of an array or an object come to
 
@@ -86,15 +86,15 @@ skip-entry {w} {raw} {us} {w′} b s b′ p xs =
     regroup : entryBytes (Entry.entry b s b′ p) ++ xs ≡ w ++ (0x22 ∷ (raw ++ (0x22 ∷ (w′ ++ (0x3A ∷ (padBytes p ++ xs))))))
     regroup = simp append-assoc
 
-elems-open : (f : List ℕ → Rest) (es : Elems) (xs : List ℕ) → closed 0x5D f (skip (elemsBytes es ++ xs)) ≡ f (skip (elemsBytes es ++ xs))
-elems-open f (Elems.last (Pad.pad {w} {w′} b v b′)) xs = rw (skip-pad v b b′ xs) (closed-value f v (w′ ++ xs))
+elems-open : (f : List ℕ → Rest) (es : Elems) (xs : List ℕ) → closedBy 0x5D f (skip (elemsBytes es ++ xs)) ≡ f (skip (elemsBytes es ++ xs))
+elems-open f (Elems.last (Pad.pad {w} {w′} b v b′)) xs = rw (skip-pad v b b′ xs) (closedBy-value f v (w′ ++ xs))
 elems-open f (Elems.more (Pad.pad {w} {w′} b v b′) es) xs =
-    rw (append-assoc (padBytes (Pad.pad b v b′)) (0x2C ∷ elemsBytes es) xs, skip-pad v b b′ (0x2C ∷ (elemsBytes es ++ xs))) (closed-value f v (w′ ++ (0x2C ∷ (elemsBytes es ++ xs))))
+    rw (append-assoc (padBytes (Pad.pad b v b′)) (0x2C ∷ elemsBytes es) xs, skip-pad v b b′ (0x2C ∷ (elemsBytes es ++ xs))) (closedBy-value f v (w′ ++ (0x2C ∷ (elemsBytes es ++ xs))))
 
-entries-open : (f : List ℕ → Rest) (es : Entries) (xs : List ℕ) → closed 0x7D f (skip (entriesBytes es ++ xs)) ≡ f (skip (entriesBytes es ++ xs))
-entries-open f (Entries.last-entry (Entry.entry b s b′ p)) xs = rw (skip-entry b s b′ p xs) (closed-not 0x7D f 0x22 _ (omega arith))
+entries-open : (f : List ℕ → Rest) (es : Entries) (xs : List ℕ) → closedBy 0x7D f (skip (entriesBytes es ++ xs)) ≡ f (skip (entriesBytes es ++ xs))
+entries-open f (Entries.last-entry (Entry.entry b s b′ p)) xs = rw (skip-entry b s b′ p xs) (closedBy-not 0x7D f 0x22 _ (omega arith))
 entries-open f (Entries.more-entries (Entry.entry b s b′ p) es) xs =
-    rw (append-assoc (entryBytes (Entry.entry b s b′ p)) (0x2C ∷ entriesBytes es) xs, skip-entry b s b′ p (0x2C ∷ (entriesBytes es ++ xs))) (closed-not 0x7D f 0x22 _ (omega arith))
+    rw (append-assoc (entryBytes (Entry.entry b s b′ p)) (0x2C ∷ entriesBytes es) xs, skip-entry b s b′ p (0x2C ∷ (entriesBytes es ++ xs))) (closedBy-not 0x7D f 0x22 _ (omega arith))
 
 -- one item more
 elements-step : (p : Pad) (n : ℕ) (xs r : List ℕ) → Passed p n xs → next 0x5D (read n elements) xs ≡ some r → rule (read n) elements (skip (padBytes p ++ xs)) ≡ some r
@@ -130,15 +130,15 @@ unfolding read
 read-suc zero k bs r h f = absurd (not-suc-le-zero h)
 read-suc (suc m) k bs r h f = f m refl
 
-closed-end : (c : ℕ) (f : List ℕ → Rest) (r : List ℕ) → closed c f (c ∷ r) ≡ some r
-unfolding closed
-closed-end c f r = rw (eq-eqb c c refl) refl
+closedBy-end : (c : ℕ) (f : List ℕ → Rest) (r : List ℕ) → closedBy c f (c ∷ r) ≡ some r
+unfolding closedBy
+closedBy-end c f r = rw (eq-eqb c c refl) refl
 
-array-rule : (f : Kind → List ℕ → Rest) (bs r : List ℕ) → closed 0x5D (f elements) (skip bs) ≡ some r → rule f a-value (0x5B ∷ bs) ≡ some r
+array-rule : (f : Kind → List ℕ → Rest) (bs r : List ℕ) → closedBy 0x5D (f elements) (skip bs) ≡ some r → rule f a-value (0x5B ∷ bs) ≡ some r
 unfolding rule
 array-rule f bs r e = e
 
-object-rule : (f : Kind → List ℕ → Rest) (bs r : List ℕ) → closed 0x7D (f members) (skip bs) ≡ some r → rule f a-value (0x7B ∷ bs) ≡ some r
+object-rule : (f : Kind → List ℕ → Rest) (bs r : List ℕ) → closedBy 0x7D (f members) (skip bs) ≡ some r → rule f a-value (0x7B ∷ bs) ≡ some r
 unfolding rule
 object-rule f bs r e = e
 
@@ -162,7 +162,7 @@ mutual
   value-reads (Bare.string s) n r h e = read-suc n a-value _ r (omega arith) (λ m q. string-rule (read m) r s)
   value-reads (Bare.empty-array {w} b) n r h e =
       read-suc n a-value _ r (omega arith)
-      (λ m q. rw (append-assoc w (0x5D ∷ []) r) (array-rule (read m) _ r (rw (skip-ws (0x5D ∷ r) b (omega arith)) (closed-end 0x5D (read m elements) r))))
+      (λ m q. rw (append-assoc w (0x5D ∷ []) r) (array-rule (read m) _ r (rw (skip-ws (0x5D ∷ r) b (omega arith)) (closedBy-end 0x5D (read m elements) r))))
   value-reads (Bare.array es) n r h e =
       read-suc n a-value _ r (omega arith) λ m q.
       rw (append-assoc (elemsBytes es) (0x5D ∷ []) r)
@@ -170,7 +170,7 @@ mutual
       (elems-open (read m elements) es (0x5D ∷ r) ∙ elems-read es m r (omega (arith, q, length-append (elemsBytes es) (0x5D ∷ [])))))
   value-reads (Bare.empty-object {w} b) n r h e =
       read-suc n a-value _ r (omega arith)
-      (λ m q. rw (append-assoc w (0x7D ∷ []) r) (object-rule (read m) _ r (rw (skip-ws (0x7D ∷ r) b (omega arith)) (closed-end 0x7D (read m members) r))))
+      (λ m q. rw (append-assoc w (0x7D ∷ []) r) (object-rule (read m) _ r (rw (skip-ws (0x7D ∷ r) b (omega arith)) (closedBy-end 0x7D (read m members) r))))
   value-reads (Bare.object es) n r h e =
       read-suc n a-value _ r (omega arith) λ m q.
       rw (append-assoc (entriesBytes es) (0x7D ∷ []) r)

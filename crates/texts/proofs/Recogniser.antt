@@ -116,9 +116,9 @@ pub data Kind : Type 0 where
   a-value elements members : Kind
 
 -- the closer, or what it closes
-unfoldable pub closed : ℕ → (List ℕ → Rest) → List ℕ → Rest
-closed c f [] = none
-closed c f (b ∷ bs) = let more = f (b ∷ bs) in pick (eqb b c) (some bs) more
+unfoldable pub closedBy : ℕ → (List ℕ → Rest) → List ℕ → Rest
+closedBy c f [] = none
+closedBy c f (b ∷ bs) = let more = f (b ∷ bs) in pick (eqb b c) (some bs) more
 
 -- the closer, or a comma and what follows
 unfoldable pub next : ℕ → (List ℕ → Rest) → List ℕ → Rest
@@ -128,8 +128,8 @@ next c f (b ∷ bs) = let more = f (skip bs) in pick (eqb b c) (some bs) (pick (
 unfoldable pub rule : (Kind → List ℕ → Rest) → Kind → List ℕ → Rest
 rule f a-value [] = none
 rule f a-value (b ∷ bs) =
-    let array = closed 0x5D (f elements) (skip bs) in
-    let object = closed 0x7D (f members) (skip bs) in
+    let array = closedBy 0x5D (f elements) (skip bs) in
+    let object = closedBy 0x7D (f members) (skip bs) in
     let quoted = string bs in
     let other = number (b ∷ bs) in
     pick (eqb b 0x5B) array (pick (eqb b 0x7B) object (pick (eqb b 0x22) quoted

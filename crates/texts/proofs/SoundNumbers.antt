@@ -8,6 +8,7 @@ use native.Mathlib.Omega.{arith}
 use borrow.Author.Tests.{eqb-true, leb-true}
 use lib.Dec.{eqb, leb}
 use Rattle.rules.specs.Word.{pick}
+use Rattle.rules.proofs.Booleans.{impossible}
 use Rattle.texts.specs.Grammar.{In, Opt, Digits, Digits1, Blank, Ws, E, Minus, Sign, Exp, Frac, Int, Number}
 use Rattle.texts.proofs.Recogniser.{Rest, then, within, byte, literal, blank, skip, digits, digits1, minus, sign, int, frac, exp, number}
 
@@ -20,7 +21,7 @@ before bs = ap (λ (l : List ℕ). bs ++ l)
 -- ---- tests taken apart
 
 pub nothing : {C : Type 0} {r : List ℕ} → _≡_ {A = Rest} none (some r) → C
-nothing e = let z : _≡_ {A = ℕ} 0 1 = cc in absurd (omega arith)
+nothing e = impossible (cc)
 
 pub by-test : {C : Type 0} {r : List ℕ} (t : Bool) (x y : Rest) → pick t x y ≡ some r → (t ≡ true → x ≡ some r → C) → (t ≡ false → y ≡ some r → C) → C
 by-test true x y e f g = f refl e

@@ -8,7 +8,7 @@ use borrow.Author.Tests.{eqb-true}
 use lib.Dec.{eqb}
 use lib.ListN.{length}
 use Rattle.texts.specs.Grammar.{Ws, Structural, Value, Object, Members, Member, Array, Values, JSON-text, Text, valueBytes, membersBytes, valuesBytes, textBytes}
-use Rattle.texts.proofs.Recogniser.{Rest, then, byte, skip, number, string, Kind, a-value, elements, members, closed, next, rule, read, ended, accepts}
+use Rattle.texts.proofs.Recogniser.{Rest, then, byte, skip, number, string, Kind, a-value, elements, members, closedBy, next, rule, read, ended, accepts}
 use Rattle.texts.proofs.SoundNumbers.{ahead, before, nothing, by-test, by-then, exactly, literal-sound, skip-sound, number-sound}
 use Rattle.texts.proofs.SoundStrings.{chars-sound}
 
@@ -33,8 +33,8 @@ Derives a-value = Valued
 Derives elements = Listed
 Derives members = Paired
 
-by-closed : {C : Type 0} (c : ℕ) (f : List ℕ → Rest) (bs : List ℕ) {r : List ℕ} → closed c f bs ≡ some r → (bs ≡ c ∷ r → C) → (f bs ≡ some r → C) → C
-unfolding closed
+by-closed : {C : Type 0} (c : ℕ) (f : List ℕ → Rest) (bs : List ℕ) {r : List ℕ} → closedBy c f bs ≡ some r → (bs ≡ c ∷ r → C) → (f bs ≡ some r → C) → C
+unfolding closedBy
 by-closed c f [] e g h = nothing e
 by-closed c f (b ∷ bs) {r} e g h = by-test (eqb b c) (some bs) _ e (λ i j. let q : bs ≡ r = cc in g (ap₂ {C = List ℕ} _∷_ (eqb-true b c i) q)) (λ i j. h j)
 
@@ -47,7 +47,7 @@ by-next c f (b ∷ bs) {r} e g h =
     λ _ e. by-test (eqb b 0x2C) _ none e (λ i j. h bs (ap (λ (x : ℕ). x ∷ bs) (eqb-true b 0x2C i)) j) (λ i j. nothing j)
 
 module _ (f : Kind → List ℕ → Rest) (ih : (k : Kind) (bs r : List ℕ) → f k bs ≡ some r → Derives k bs r) where
-  array-sound : (bs : List ℕ) {r : List ℕ} → closed 0x5D (f elements) (skip bs) ≡ some r → Valued (0x5B ∷ bs) r
+  array-sound : (bs : List ℕ) {r : List ℕ} → closedBy 0x5D (f elements) (skip bs) ≡ some r → Valued (0x5B ∷ bs) r
   unfolding valueBytes
   array-sound bs {r} e =
       let s = skip-sound bs in
@@ -63,7 +63,7 @@ module _ (f : Kind → List ℕ → Rest) (ih : (k : Kind) (bs r : List ℕ) →
         whole = ahead 0x5B (s .whole ∙ before (s .part) (d .whole ∙ simp append-assoc) ∙ sym (append-assoc (s .part) (valuesBytes (d .values) ++ (d .blanks ++ (0x5D ∷ []))) r));
       })
 
-  object-sound : (bs : List ℕ) {r : List ℕ} → closed 0x7D (f members) (skip bs) ≡ some r → Valued (0x7B ∷ bs) r
+  object-sound : (bs : List ℕ) {r : List ℕ} → closedBy 0x7D (f members) (skip bs) ≡ some r → Valued (0x7B ∷ bs) r
   unfolding valueBytes
   object-sound bs {r} e =
       let s = skip-sound bs in

@@ -12,8 +12,6 @@ use crate::telling::tell_two;
 use index::Had;
 use index::Handed;
 use index::Job;
-use numbers::number_of;
-use numbers::place_of;
 
 // A refused opening hands back a closed job.
 pub fn no_job() -> Job {
@@ -23,7 +21,7 @@ pub fn no_job() -> Job {
 
 fn told(handed: Handed, words: &[u64], digest: &mut u64) -> Job {
     let answer = handed.answer;
-    tell(number_of(answer), place_of(answer));
+    tell(answer.number(), answer.place());
     *digest = digest_of(*digest, words);
     handed.job
 }
@@ -67,14 +65,14 @@ fn ask(job: Job, k: usize) {
     let asked = job.ask(k);
     let had = asked.had;
     match had {
-        Had::NoChunk => tell_two(10, asked.chunks, 0),
+        Had::NoChunk => tell_two(asked.number(), asked.chunks, 0),
         Had::Steps {
             scanned,
             settled,
             levelled,
         } => {
             let steps = weigh(scanned, 1) + weigh(settled, 2) + weigh(levelled, 4);
-            tell_two(0, asked.chunks, steps);
+            tell_two(asked.number(), asked.chunks, steps);
         }
     }
 }

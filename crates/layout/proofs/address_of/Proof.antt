@@ -1,6 +1,6 @@
 -- The address is the layout's, and every part of it is below it, so that it fits.
 use mathlib.Core.Path.{_≡_, sym, ap, _∙_}
-use Prim.Native.Nat.{ℕ, _+_, _*_}
+use Prim.Native.Nat.{_+_, _*_}
 use native.Mathlib.Omega.{arith}
 use Rattle.rules.specs.Layout.{address, row}
 use Rattle.layout.specs.declared.Map.{Map}

@@ -59,11 +59,11 @@ enum-known-s-2 c = search needs
 enum-told : tie.Need-enum-told Inv-loop μ-loop
 enum-told c = search needs
 
-verdict-requires : tie.Need-verdict-requires Inv-loop μ-loop
-verdict-requires c κs = search needs
+limits-requires : tie.Need-limits-requires Inv-loop μ-loop
+limits-requires c κs = search needs
 
 returns-4 : tie.Need-returns-4 Inv-loop μ-loop
-returns-4 c = c .verdict .ensures ∙ sym (checking-end (c .before .before .before .before .loop .inv) (sym (c .before .before .before .read-step .ensures) ∙ c .before .enum-told .given .1))
+returns-4 c = c .limits .ensures ∙ sym (checking-end (c .before .before .before .before .loop .inv) (sym (c .before .before .before .read-step .ensures) ∙ c .before .enum-told .given .1))
 
 enum-known-s-3 : tie.Need-enum-known-s-3 Inv-loop μ-loop
 enum-known-s-3 c = search needs
@@ -95,7 +95,7 @@ check-path-spec =
     enum-known-s
     enum-known-s-2
     enum-told
-    verdict-requires
+    limits-requires
     returns-4
     enum-known-s-3
     returns-5

@@ -25,6 +25,7 @@ use Rattle.blocks.specs.Swinging.{Brackets}
 use Rattle.chunks.specs.Writing.{over, rewritten, levelsTill, Lent}
 use Rattle.chunks.specs.Flipping.{maskIn}
 use Rattle.blocks.specs.Spreading.{deepAt, SpreadOf}
+use Rattle.chunks.specs.Storing.{StoredAt}
 use Rattle.chunks.specs.Levels.{levelBy, levelWord, levelWords}
 use Rattle.blocks.proofs.MarkLaws.{plain-of}
 use Rattle.chunks.proofs.LentLaws.{mask-word-of}
@@ -90,9 +91,7 @@ module _ {text words₀ : List ℕ} {levels from to width start : ℕ} {words : 
         ∙ word-ext 64 _ _ (λ j b.
         ap₂ (λ (x y : ℕ). plain by c text (64 * w + j) && deepAt start (opensFrom text words₀ levels from) (closesFrom text words₀ levels from) x y) (add-one k) (omega (arith, inv .low)))
 
-    turn : {two : List ℕ} → ((g : ℕ) (f old : Bitmap → ℕ → ℕ) → g ≤ w
-        → ((k : ℕ) → k < levels → (bitAnd (bitAnd (classes .a) (2 ^ 64 - 1 - v)) (getD (s .slots) (k + 1) 0) ≡ f (colons (suc k)) w) × (bitAnd (bitAnd (classes .b) (2 ^ 64 - 1 - v)) (getD (s .slots) (k + 1) 0) ≡ f (commas (suc k)) w))
-        → Cells levels width words (over (levelsTill w) g f old) → Cells levels width two (over (levelsTill (suc w)) g f old))
+    turn : {two : List ℕ} → StoredAt levels width w (s .slots) (bitAnd (classes .a) (2 ^ 64 - 1 - v)) (bitAnd (classes .b) (2 ^ 64 - 1 - v)) words two
         → Inv text words₀ levels from to width start two (s .up) (s .down) (w + 1)
     unfolding lanesFor has levelWord
     turn {two} stored =
@@ -105,7 +104,7 @@ module _ {text words₀ : List ℕ} {levels from to width start : ℕ} {words : 
           downs = spread-is .down-is ∙ ap (count (closesFrom text words₀ levels from)) same;
           written =
               subst (λ (x : ℕ). Cells levels width two (over (levelsTill x) from (levelWord text words₀ levels from start) (cell words₀ levels width))) (sym (add-one w))
-              (stored from (levelWord text words₀ levels from start) (cell words₀ levels width) (inv .low) (λ k h. (level-is colon k h (block .a-is), level-is comma k h (block .b-is))) (inv .written));
+              (stored .stores from (levelWord text words₀ levels from start) (cell words₀ levels width) (inv .low) (record { colons-are = λ k h. level-is colon k h (block .a-is); commas-are = λ k h. level-is comma k h (block .b-is) }) (inv .written));
         }
 
 -- at the end

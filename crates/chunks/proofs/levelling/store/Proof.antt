@@ -4,7 +4,7 @@ use mathlib.Core.Path.{_≡_, refl, sym, ap, ap₂, _∙_, subst}
 use mathlib.Core.Bool.{Bool}
 use mathlib.Core.Logic.{_⊎_, inl, inr}
 use mathlib.Core.List.{List}
-use Prim.Native.Nat.{ℕ, zero, suc, _+_, _*_, _-_, _≤_, _<_}
+use Prim.Native.Nat.{ℕ, zero, suc, _+_, _-_, _≤_, _<_}
 use native.Mathlib.Numerals.{add-one}
 use native.Mathlib.Decide.{ℕ-discrete}
 use native.Mathlib.Omega.{arith}
@@ -16,6 +16,7 @@ use Rattle.rules.specs.Word.{pick}
 use Rattle.rules.specs.Layout.{Bitmap, quotes, mask, colons, commas, address, Has}
 use Rattle.rules.proofs.LayoutLaws.{Cells}
 use Rattle.chunks.specs.Writing.{over, levelsTill}
+use Rattle.chunks.specs.Storing.{LevelsAt}
 use Rattle.chunks.proofs.WriteLaws.{next-limit, over-same, write-next}
 use Rattle.chunks.proofs.levelling.store.Statement.{statement}
 use Rattle.chunks.proofs.levelling.store.Tie as tie
@@ -87,24 +88,20 @@ relimit : (levels width from : ℕ) (t u : Bitmap → ℕ) (f old : Bitmap → �
 relimit levels width from t u f old words same p =
     record { long = p .long; holds = λ b h w l. p .holds b h w l ∙ over-same t u from f old b w (ap (ltb w) (same b h)) }
 
--- what is asked of the values
-Given : ℕ → ℕ → List ℕ → ℕ → ℕ → (Bitmap → ℕ → ℕ) → Type 0
-Given levels w slots colon comma f = (k : ℕ) → k < levels → (bitAnd colon (getD slots (k + 1) 0) ≡ f (colons (suc k)) w) × (bitAnd comma (getD slots (k + 1) 0) ≡ f (commas (suc k)) w)
-
 record Inv (words₀ : List ℕ) (levels width w : ℕ) (slots : List ℕ) (colon comma : ℕ) (words : List ℕ) (k : ℕ) : Type 0 where
   pub high : k ≤ levels
   pub long : length words ≡ length words₀
-  pub written : (from : ℕ) (f old : Bitmap → ℕ → ℕ) → from ≤ w → Given levels w slots colon comma f → Cells levels width words₀ (over (levelsTill w) from f old) → Cells levels width words (over (upto w k k) from f old)
+  pub written : (from : ℕ) (f old : Bitmap → ℕ → ℕ) → from ≤ w → LevelsAt levels w slots colon comma f → Cells levels width words₀ (over (levelsTill w) from f old) → Cells levels width words (over (upto w k k) from f old)
 
-turn : (levels width w from : ℕ) (f old : Bitmap → ℕ → ℕ) (slots : List ℕ) (colon comma k : ℕ) (words one two : List ℕ) → k < levels → w < width → from ≤ w → Given levels w slots colon comma f
+turn : (levels width w from : ℕ) (f old : Bitmap → ℕ → ℕ) (slots : List ℕ) (colon comma k : ℕ) (words one two : List ℕ) → k < levels → w < width → from ≤ w → LevelsAt levels w slots colon comma f
     → Cells levels width words (over (upto w k k) from f old) → one ≡ set words (address levels width (colons (k + 1)) w) (bitAnd colon (getD slots (k + 1) 0))
     → two ≡ set one (address levels width (commas (k + 1)) w) (bitAnd comma (getD slots (k + 1) 0)) → Cells levels width two (over (upto w (k + 1) (k + 1)) from f old)
-unfolding upto Given
+unfolding upto
 turn levels width w from f old slots colon comma k words one two l m h given p e₁ e₂ =
     let v = bitAnd colon (getD slots (k + 1) 0) in
     let u = bitAnd comma (getD slots (k + 1) 0) in
-    let step₁ = write-next levels width from f old (upto w k k) (upto w (suc k) k) (colons (suc k)) w v words p (omega arith, omega arith) h m (here-is w k) (next-is w k) (colons-only w k k) (given k l .0) in
-    let step₂ = write-next levels width from f old (upto w (suc k) k) (upto w (suc k) (suc k)) (commas (suc k)) w u _ step₁ (omega arith, omega arith) h m (here-is w k) (next-is w k) (commas-only w (suc k) k) (given k l .1) in
+    let step₁ = write-next levels width from f old (upto w k k) (upto w (suc k) k) (colons (suc k)) w v words p (omega arith, omega arith) h m (here-is w k) (next-is w k) (colons-only w k k) (given .colons-are k l) in
+    let step₂ = write-next levels width from f old (upto w (suc k) k) (upto w (suc k) (suc k)) (commas (suc k)) w u _ step₁ (omega arith, omega arith) h m (here-is w k) (next-is w k) (commas-only w (suc k) k) (given .commas-are k l) in
     let one-is = e₁ ∙ ap (λ (j : ℕ). set words (address levels width (colons j) w) v) (add-one k) in
     let two-is = e₂ ∙ ap₂ (λ (x : List ℕ) (j : ℕ). set x (address levels width (commas j) w) u) one-is (add-one k) in
     subst (λ (x : ℕ). Cells levels width two (over (upto w x x) from f old)) (sym (add-one k))
@@ -157,13 +154,15 @@ same-length : tie.Need-same-length Inv-loop μ-loop
 same-length c = c .before .loop .inv .long
 
 returns : tie.Need-returns Inv-loop μ-loop
-unfolding Given
-returns c = λ from f old h given p.
+returns c =
     let a = c .before .before .before .args in
     let i = c .before .loop .inv in
     let end : c .before .loop .k ≡ a .levels = omega (arith, i .high) in
-    relimit (a .levels) (a .width) from (upto (a .w) (a .levels) (a .levels)) (levelsTill (suc (a .w))) f old _ (all-done (a .levels) (a .w))
-    (subst (λ (k : ℕ). Cells (a .levels) (a .width) (c .before .loop .words) (over (upto (a .w) k k) from f old)) end (i .written from f old h given p))
+    record {
+      stores = λ from f old h given p.
+          relimit (a .levels) (a .width) from (upto (a .w) (a .levels) (a .levels)) (levelsTill (suc (a .w))) f old _ (all-done (a .levels) (a .w))
+          (subst (λ (k : ℕ). Cells (a .levels) (a .width) (c .before .loop .words) (over (upto (a .w) k k) from f old)) end (i .written from f old h given p));
+    }
 
 pub store-spec : {M : Type 1} → statement M
 store-spec =

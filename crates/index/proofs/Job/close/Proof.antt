@@ -32,7 +32,7 @@ returns : tie.Need-returns
 returns c =
     let a = c .before .before .before .before .before .args in let e = c .before .before .close-answer in
     let d = close-is (a .self) (length (a .text .now)) (a .words .now) (Refused (c .enum-told .given .0 .0)) (sym (e .ensures) ∙ c .enum-told .given .1) in
-    (rw (c .enum-told .given .1) (d .0), d .1)
+    record { hands = rw (c .enum-told .given .1) (d .0); leaves = d .1 }
 
 same-length : tie.Need-same-length
 same-length c = search needs
@@ -41,13 +41,13 @@ returns-2 : tie.Need-returns-2
 returns-2 c =
     let a = c .before .before .before .before .before .before .before .before .before .before .args in let e = c .before .before .before .before .before .before .before .close-answer in
     let d = close-is (a .self) (length (a .text .now)) (a .words .now) (Faulty (c .before .before .before .before .before .enum-told2 .given .0 .0)) (sym (e .ensures) ∙ c .before .before .before .before .before .enum-told2 .given .1) in
-    (rw (c .before .before .before .before .before .enum-told2 .given .1, c .with-state .ensures) (d .0), c .before .before .before .zero-words .ensures ∙ d .1)
+    record { hands = rw (c .before .before .before .before .before .enum-told2 .given .1, c .with-state .ensures) (d .0); leaves = c .before .before .before .zero-words .ensures ∙ d .1 }
 
 returns-3 : tie.Need-returns-3
 returns-3 c =
     let a = c .before .before .before .before .before .before .args in let e = c .before .before .before .close-answer in
     let d = close-is (a .self) (length (a .text .now)) (a .words .now) Done (sym (e .ensures) ∙ c .before .enum-told3 .given .1) in
-    (rw (c .before .enum-told3 .given .1, c .with-state2 .ensures) (d .0), d .1)
+    record { hands = rw (c .before .enum-told3 .given .1, c .with-state2 .ensures) (d .0); leaves = d .1 }
 
 pub close-spec : {M : Type 1} → statement M
 close-spec =

@@ -20,7 +20,7 @@ enum-told c = search needs
 returns : tie.Need-returns
 unfolding levelled levelledWords
 returns c = let e = c .before .refused .ensures in
-    (ap₂ handed e (as-refused e (c .match .keys2) _ _), as-refused e (c .match .keys2) _ _)
+    record { hands = ap₂ handed e (as-refused e (c .match .keys2) _ _); leaves = as-refused e (c .match .keys2) _ _ }
 
 span-requires : tie.Need-span-requires
 span-requires c κs = (let f = fitting Level _ _ _ _ (sym (c .before .before .refused .ensures) ∙ c .enum-told .given .1) in (f .short, f .chunk))
@@ -45,10 +45,11 @@ same-length c = search needs
 returns-2 : tie.Need-returns-2
 unfolding levelled levelledWords levelChunk
 returns-2 c = let a = c .before .before .before .before .before .before .before .before .before .before .before .before .args in
-    let done = sym (c .before .before .before .before .before .before .before .before .before .refused .ensures) ∙ c .before .before .before .before .before .before .before .enum-told .given .1 in (
-      ap₂ handed (sym done) (c .with-chunk .ensures ∙ as-done done _ _),
-      c .before .before .before .level-words .ensures ∙ ap (λ (s : Span). levelWords (a .text .now) (a .t1 .levels) (s .from) (s .to) (chunkAt (a .t1) (a .k) .start) (a .words .now)) (c .before .before .before .before .before .before .span .ensures) ∙ as-done done _ _,
-    )
+    let done = sym (c .before .before .before .before .before .before .before .before .before .refused .ensures) ∙ c .before .before .before .before .before .before .before .enum-told .given .1 in
+    record {
+      hands = ap₂ handed (sym done) (c .with-chunk .ensures ∙ as-done done _ _);
+      leaves = c .before .before .before .level-words .ensures ∙ ap (λ (s : Span). levelWords (a .text .now) (a .t1 .levels) (s .from) (s .to) (chunkAt (a .t1) (a .k) .start) (a .words .now)) (c .before .before .before .before .before .before .span .ensures) ∙ as-done done _ _;
+    }
 
 pub level-spec : {M : Type 1} → statement M
 level-spec =

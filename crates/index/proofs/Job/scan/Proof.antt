@@ -17,7 +17,7 @@ enum-told c = search needs
 returns : tie.Need-returns
 unfolding scanned scannedWords
 returns c = let e = c .before .refused .ensures in
-    (ap₂ handed e (as-refused e (c .match .keys2) _ _), as-refused e (c .match .keys2) _ _)
+    record { hands = ap₂ handed e (as-refused e (c .match .keys2) _ _); leaves = as-refused e (c .match .keys2) _ _ }
 
 scan-chunk-requires : tie.Need-scan-chunk-requires
 scan-chunk-requires c κs = fitting Scan _ _ _ _ (sym (c .before .before .before .refused .ensures) ∙ c .before .enum-told .given .1)
@@ -31,10 +31,11 @@ same-length c = search needs
 returns-2 : tie.Need-returns-2
 unfolding scanned scannedWords
 returns-2 c = let a = c .before .before .before .before .before .before .before .before .before .before .args in
-    let done = sym (c .before .before .before .before .before .before .before .refused .ensures) ∙ c .before .before .before .before .before .enum-told .given .1 in (
-      ap₂ handed (sym done) (c .with-chunk .ensures ∙ ap (withChunk (a .self) (a .k)) (c .before .before .before .scan-chunk .ensures .0) ∙ as-done done _ _),
-      c .before .before .before .scan-chunk .ensures .1 ∙ as-done done _ _,
-    )
+    let done = sym (c .before .before .before .before .before .before .before .refused .ensures) ∙ c .before .before .before .before .before .enum-told .given .1 in
+    record {
+      hands = ap₂ handed (sym done) (c .with-chunk .ensures ∙ ap (withChunk (a .self) (a .k)) (c .before .before .before .scan-chunk .ensures .0) ∙ as-done done _ _);
+      leaves = c .before .before .before .scan-chunk .ensures .1 ∙ as-done done _ _;
+    }
 
 pub scan-spec : {M : Type 1} → statement M
 scan-spec =

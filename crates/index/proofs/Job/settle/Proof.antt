@@ -58,7 +58,7 @@ enum-told c = search needs
 returns : tie.Need-returns
 unfolding settled settledWords
 returns c = let e = c .before .refused .ensures in
-    (ap₂ handed (e ∙ as-refused e (c .match .keys2) _ _) (as-refused e (c .match .keys2) _ _), as-refused e (c .match .keys2) _ _)
+    record { hands = ap₂ handed (e ∙ as-refused e (c .match .keys2) _ _) (as-refused e (c .match .keys2) _ _); leaves = as-refused e (c .match .keys2) _ _ }
 
 settle-chunk-requires : tie.Need-settle-chunk-requires
 settle-chunk-requires c κs = fitting Settle _ _ _ _ (sym (c .before .before .before .refused .ensures) ∙ c .before .enum-told .given .1)
@@ -93,10 +93,11 @@ returns-2 c = let a = c .before .before .before .before .before .before .before 
     let done = sym (c .before .before .before .before .before .before .before .before .before .before .before .before .before .refused .ensures) ∙ c .before .before .before .before .before .before .before .before .before .before .before .enum-told .given .1 in
     let e = c .before .before .before .before .before .before .before .before .before .settle-chunk .ensures in
     let f = c .enum-told2 .given .1 in
-    let done-is = ended (a .self) (a .text .now) (a .words .now) (a .k) done (e .1) (e .0) (c .before .before .before .before .before .before .span .ensures) (c .before .before .before .before .is-last .ensures) (sym f ∙ c .before .before .before .chunk-fault .ensures) in (
-      ap (handed Done) (c .before .before .with-chunk .ensures) ∙ done-is,
-      left (a .self) (a .text .now) (a .words .now) (a .k) done (e .1) (e .0) (c .before .before .before .before .before .before .span .ensures) (c .before .before .before .before .is-last .ensures) (sym f ∙ c .before .before .before .chunk-fault .ensures),
-    )
+    let done-is = ended (a .self) (a .text .now) (a .words .now) (a .k) done (e .1) (e .0) (c .before .before .before .before .before .before .span .ensures) (c .before .before .before .before .is-last .ensures) (sym f ∙ c .before .before .before .chunk-fault .ensures) in
+    record {
+      hands = ap (handed Done) (c .before .before .with-chunk .ensures) ∙ done-is;
+      leaves = left (a .self) (a .text .now) (a .words .now) (a .k) done (e .1) (e .0) (c .before .before .before .before .before .before .span .ensures) (c .before .before .before .before .is-last .ensures) (sym f ∙ c .before .before .before .chunk-fault .ensures);
+    }
 
 same-length-2 : tie.Need-same-length-2
 same-length-2 c = search needs
@@ -106,10 +107,11 @@ returns-3 c = let a = c .before .before .before .before .before .before .before 
     let done = sym (c .before .before .before .before .before .before .before .before .before .before .before .before .before .before .before .refused .ensures) ∙ c .before .before .before .before .before .before .before .before .before .before .before .before .before .enum-told .given .1 in
     let e = c .before .before .before .before .before .before .before .before .before .before .before .settle-chunk .ensures in
     let f = c .before .before .found .given .1 in
-    let done-is = ended (a .self) (a .text .now) (a .words .now) (a .k) done (e .1) (e .0) (c .before .before .before .before .before .before .before .before .span .ensures) (c .before .before .before .before .before .before .is-last .ensures) (sym f ∙ c .before .before .before .before .before .chunk-fault .ensures) in (
-      ap (handed (Faulty _)) (c .with-state .ensures ∙ ap (λ (j : Job). withState j (Stopped (c .before .before .found .given .0 .0))) (c .before .before .before .before .with-chunk .ensures)) ∙ done-is,
-      left (a .self) (a .text .now) (a .words .now) (a .k) done (e .1) (e .0) (c .before .before .before .before .before .before .before .before .span .ensures) (c .before .before .before .before .before .before .is-last .ensures) (sym f ∙ c .before .before .before .before .before .chunk-fault .ensures),
-    )
+    let done-is = ended (a .self) (a .text .now) (a .words .now) (a .k) done (e .1) (e .0) (c .before .before .before .before .before .before .before .before .span .ensures) (c .before .before .before .before .before .before .is-last .ensures) (sym f ∙ c .before .before .before .before .before .chunk-fault .ensures) in
+    record {
+      hands = ap (handed (Faulty _)) (c .with-state .ensures ∙ ap (λ (j : Job). withState j (Stopped (c .before .before .found .given .0 .0))) (c .before .before .before .before .with-chunk .ensures)) ∙ done-is;
+      leaves = left (a .self) (a .text .now) (a .words .now) (a .k) done (e .1) (e .0) (c .before .before .before .before .before .before .before .before .span .ensures) (c .before .before .before .before .before .before .is-last .ensures) (sym f ∙ c .before .before .before .before .before .chunk-fault .ensures);
+    }
 
 pub settle-spec : {M : Type 1} → statement M
 settle-spec =

@@ -16,8 +16,8 @@ settle-kept-requires c κs = c .before .before .before .pre
 inside-of-requires : tie.Need-inside-of-requires
 inside-of-requires c κs = c .before .before .before .before .before .before .pre .chunk
 
-start-of-requires : tie.Need-start-of-requires
-start-of-requires c κs = c .before .before .before .before .before .before .before .pre .chunk
+start-depth-requires : tie.Need-start-depth-requires
+start-depth-requires c κs = c .before .before .before .before .before .before .before .pre .chunk
 
 mul-c : tie.Need-mul-c
 mul-c c = search needs
@@ -33,7 +33,7 @@ unfolding settleChunk
 returns c = let a = c .before .before .before .before .before .before .before .before .before .args in
     let d = chunkAt (a .t1) (a .k) in
     let chunk : Bool → ℕ → Kept → Chunk = λ i s x. record { cut = d .cut; scanned = d .scanned; settled = true; levelled = d .levelled; inside = i; start = s; kept = x } in (
-      ap₂ (λ (i : Bool) (s : ℕ). chunk i s (c .before .before .before .before .before .settle-kept .result)) (c .before .before .inside-of .ensures) (c .before .start-of .ensures) ∙ ap (chunk _ _) (c .before .before .before .before .before .settle-kept .ensures .0),
+      ap₂ (λ (i : Bool) (s : ℕ). chunk i s (c .before .before .before .before .before .settle-kept .result)) (c .before .before .inside-of .ensures) (c .before .start-depth .ensures) ∙ ap (chunk _ _) (c .before .before .before .before .before .settle-kept .ensures .0),
       c .before .before .before .before .before .settle-kept .ensures .1,
     )
 
@@ -43,7 +43,7 @@ settle-chunk-spec =
     (tie.spec
     settle-kept-requires
     inside-of-requires
-    start-of-requires
+    start-depth-requires
     mul-c
     element-copy-out-c
     same-length

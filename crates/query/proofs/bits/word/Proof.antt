@@ -1,6 +1,5 @@
 -- A word of the bitmap, by the layout.
 use Rattle.query.proofs.Lents.{in-map}
-use borrow.Author.Needs.{needs}
 use Rattle.query.proofs.bits.word.Statement.{statement}
 use Rattle.query.proofs.bits.word.Tie as tie
 

@@ -4,7 +4,7 @@ use mathlib.Core.Path.{_≡_, sym, _∙_}
 use native.Mathlib.Omega.{arith}
 use Rattle.paths.specs.Places.{byteIn, between}
 use Rattle.query.specs.Items.{same}
-use Rattle.query.proofs.Names.{same-short, same-none, same-next, same-stop}
+use Rattle.query.proofs.Comparing.{same-short, same-none, same-next, same-stop}
 use Rattle.query.proofs.items.same_name.Statement.{statement}
 use Rattle.query.proofs.items.same_name.Tie as tie
 

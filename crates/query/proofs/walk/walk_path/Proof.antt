@@ -6,8 +6,8 @@ use native.Mathlib.Omega.{arith}
 use lib.ListN.{length}
 use types.Run.{OneOf, miss}
 use denote.Enum.Declared.{tagOf}
-use Rattle.paths.specs.declared.Step.{Step}
-use Rattle.paths.proofs.Step.{the-type}
+use Rattle.paths.specs.declared.PathStep.{PathStep}
+use Rattle.paths.proofs.PathStep.{the-type}
 use Rattle.paths.proofs.PathLaws.{name-told, number-told}
 use Rattle.query.proofs.Going.{Going, going-start, level-name, going-name, stop-name, level-number, going-number, stop-number, stop-end}
 use borrow.Author.Needs.{needs}
@@ -36,8 +36,8 @@ returns : tie.Need-returns Inv-loop μ-loop
 returns c =
     λ ss r.
     sym (stop-end (c .before .before .before .loop .inv)
-    (λ b f x h. miss (1 ∷ 2 ∷ 3 ∷ []) 0 tt (subst (λ (y : Step). OneOf (1 ∷ 2 ∷ 3 ∷ []) (tagOf the-type y)) (c .before .before .read-step .ensures ∙ h) (c .before .match .keys2)))
-    (λ m x h. miss (0 ∷ 2 ∷ 3 ∷ []) 1 tt (subst (λ (y : Step). OneOf (0 ∷ 2 ∷ 3 ∷ []) (tagOf the-type y)) (c .before .before .read-step .ensures ∙ h) (c .match2 .keys2))) ss r)
+    (λ b f x h. miss (1 ∷ 2 ∷ 3 ∷ []) 0 tt (subst (λ (y : PathStep). OneOf (1 ∷ 2 ∷ 3 ∷ []) (tagOf the-type y)) (c .before .before .read-step .ensures ∙ h) (c .before .match .keys2)))
+    (λ m x h. miss (0 ∷ 2 ∷ 3 ∷ []) 1 tt (subst (λ (y : PathStep). OneOf (0 ∷ 2 ∷ 3 ∷ []) (tagOf the-type y)) (c .before .before .read-step .ensures ∙ h) (c .match2 .keys2))) ss r)
 
 number-step-requires : tie.Need-number-step-requires Inv-loop μ-loop
 number-step-requires c κs = let g = c .before .before .before .before .before .loop .inv in (c .before .before .before .before .before .before .before .before .before .pre .0, ((g .level, level-number g (sym (c .before .before .before .before .read-step .ensures) ∙ c .before .step2 .given .1)), (g .order, g .inside)))

@@ -37,7 +37,7 @@ loop-again c =
     let l = c .before .before .before .before .before .before .before .before .before .before .loop in
     let s = c .before .before .before .before .before .before .before .settle in
     let h = c .before .before .before .level in
-    (finish-turn _ _ _ _ (l .j) (s .result) (h .result) (l .k) _ (omega arith) (s .ensures .0) (s .ensures .1) (h .ensures .0) (h .ensures .1) ∙ l .inv .0, omega arith, search needs)
+    (finish-turn _ _ _ _ (l .j) (s .result) (h .result) (l .k) _ (omega arith) (s .ensures) (h .ensures) ∙ l .inv .0, omega arith, search needs)
 
 same-length : tie.Need-same-length Inv-loop μ-loop
 same-length c = c .before .loop .inv .2

@@ -38,7 +38,7 @@ returns-2 c =
     let a = c .before .before .before .before .before .before .before .before .before .before .before .before .before .before .before .before .before .before .before .args in
     let o = c .before .before .before .before .before .before .before .before .before .before .before .before .before .before .«open» in
     job-closed (a .text .now) (a .words .now) (a .cuts .now) (o .result) (o .ensures) (c .before .before .before .before .before .before .before .before .before .before .before .before .enum-told .given .1)
-    _ _ _ _ _ (c .before .before .close .result) (c .before .before .before .before .before .before .before .before .before .before .scan-all .ensures) (c .before .before .before .before .before .before .finish-all .ensures) (c .before .before .close .ensures .0) (c .before .before .close .ensures .1)
+    _ _ _ _ _ (c .before .before .close .result) (c .before .before .before .before .before .before .before .before .before .before .scan-all .ensures) (c .before .before .before .before .before .before .finish-all .ensures) (c .before .before .close .ensures)
 
 pub run-job-spec : {M : Type 1} → statement M
 run-job-spec =

@@ -31,7 +31,7 @@ loop-again : tie.Need-loop-again Inv-loop μ-loop
 loop-again c =
     let l = c .before .before .before .before .before .before .loop in
     let s = c .before .before .before .scan in
-    (scan-turn _ _ _ (l .j) (s .result) (l .k) (omega arith) (s .ensures .0) (s .ensures .1) ∙ l .inv .0, search needs)
+    (scan-turn _ _ _ (l .j) (s .result) (l .k) (omega arith) (s .ensures) ∙ l .inv .0, search needs)
 
 same-length : tie.Need-same-length Inv-loop μ-loop
 same-length c = c .before .loop .inv .1
