@@ -3,6 +3,7 @@ pub mod Standing
 pub mod Lents
 pub mod Names
 pub mod ItemLaws
+pub mod Members
 pub mod Walking
 pub mod Inside
 pub mod Going

@@ -1,5 +1,6 @@
 pub mod Items
 pub mod Helpers
 pub mod Walk
+pub mod Members
 pub mod Answers
 pub mod Conditions
