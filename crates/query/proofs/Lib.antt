@@ -5,11 +5,12 @@ pub mod Names
 pub mod ItemLaws
 pub mod Members
 pub mod Walking
+pub mod Cuts
+pub mod ItemCount
 pub mod Inside
 pub mod Going
 pub mod Answering
 pub mod Agree
 pub mod Stops
 pub mod Numbers
-pub mod ItemCount
 pub mod Outcomes
