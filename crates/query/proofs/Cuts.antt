@@ -11,6 +11,7 @@ use native.Mathlib.Decide.{decLt}
 use Rattle.paths.specs.Places.{firstAt}
 use Rattle.query.specs.Items.{Bits, itemAt, itemsIn, items}
 use Rattle.query.specs.Members.{Cut, AllOther, FirstIs, Member}
+use Rattle.query.specs.declared.types.Cause.{Cause}
 use Rattle.query.specs.declared.items.Item.{Item}
 use Rattle.query.specs.declared.items.Item.the-variants.{Found, Other, Broken}
 use Rattle.paths.proofs.PlaceLaws.{first-ge, first-le, first-hit, first-miss, first-at, first-all}
@@ -78,10 +79,16 @@ module _ (comma : ℕ → Bool) (a e : ℕ) (h : a ≤ e) where
 
 -- ---- the first that is not another's
 
+pub found-stops : {p q : ℕ} → Found p q ≡ Other → ⊥
+found-stops e = let z : _≡_ {A = ℕ} 0 1 = cc in omega arith
+
+pub broken-stops : {why : Cause} → Broken why ≡ Other → ⊥
+broken-stops e = let z : _≡_ {A = ℕ} 0 1 = cc in omega arith
+
 other-or-not : (x : Item) → (x ≡ Other) ⊎ (x ≡ Other → ⊥)
-other-or-not (Found p q) = inr (λ e. let z : _≡_ {A = ℕ} 0 1 = cc in omega arith)
+other-or-not (Found p q) = inr (λ e. found-stops e)
 other-or-not Other = inl refl
-other-or-not (Broken why) = inr (λ e. let z : _≡_ {A = ℕ} 0 1 = cc in omega arith)
+other-or-not (Broken why) = inr (λ e. broken-stops e)
 
 module _ (item : ℕ → ℕ → Item) (is : ℕ → ℕ → Item → Type 0) (law : (s f : ℕ) (r : Item) → s ≤ f → (item s f ≡ r) ↔ is s f r) (comma : ℕ → Bool) where
   data Taken (a e : ℕ) : Item → Type 0 where

@@ -2,7 +2,7 @@
 use Prim.Native.Nat.{ℕ, _+_, _-_, _≤_, _<_}
 use mathlib.Core.Path.{_≡_, refl, sym, ap, ap₂, _∙_, subst}
 use mathlib.Core.Logic.{_↔_}
-use mathlib.Core.Bool.{Bool, true, false, true≢false, _&&_}
+use mathlib.Core.Bool.{Bool, true, false, true≢false, _&&_, not-eq-not}
 use mathlib.Core.List.{List}
 use native.Mathlib.Omega.{arith}
 use native.Mathlib.Decide.{decLt}
@@ -19,11 +19,6 @@ use Rattle.query.specs.declared.items.Item.the-variants.{Found, Other, B
 use Rattle.paths.proofs.PlaceLaws.{pick-ind, first-ge, first-le, first-hit, first-miss, first-at, first-all, last-none, last-bounds, last-hit, last-miss, last-at}
 use Rattle.paths.proofs.PathLaws.{both-true}
 use Rattle.query.proofs.Names.{same-exactly}
-
--- a test that is false where its statement is not
-pub not-so : (b : Bool) → (b ≡ true → ⊥) → b ≡ false
-not-so true h = absurd (h refl)
-not-so false h = refl
 
 -- ---- a value
 
@@ -162,8 +157,8 @@ module _ (byte : ℕ → ℕ) (bits : Bits) (k : ℕ) (n : List ℕ) (s f : ℕ)
   item-at : {r : Item} → s ≤ f → Member byte bits k n s f r → itemAt byte bits k n s f ≡ r
   unfolding itemAt keyed
   item-at h (no-colon o) = rw (first-all (bits .colon k) s f h o, le-ltb f f (omega arith))
-  item-at h (bad-name {d} c o) = at-colon c ∙ rw (not-so (quoted (bits .quote) (trimStart byte s d) (trimEnd byte s d)) (λ y. let z = quoted-exactly (bits .quote) _ _ .0 y in o _ _ (trimmed byte s d (c .from) (omega (arith, z .long))) z))
-  item-at h (other {d} {m} w g) = at-name w ∙ rw (not-so (same m n) (λ e. g (same-exactly m n .0 e)))
+  item-at h (bad-name {d} c o) = at-colon c ∙ rw (not-eq-not {a = quoted (bits .quote) (trimStart byte s d) (trimEnd byte s d)} {b = false} .0 (λ y. let z = quoted-exactly (bits .quote) _ _ .0 y in o _ _ (trimmed byte s d (c .from) (omega (arith, z .long))) z))
+  item-at h (other {d} {m} w g) = at-name w ∙ rw (not-eq-not {a = same m n} {b = false} .0 (λ e. g (same-exactly m n .0 e)))
   item-at h (empty {d} w o) = at-name w ∙ rw (same-exactly n n .1 refl) (value-at byte (d + 1) f (omega (arith, w .colon .inside)) (blank o))
   item-at h (found {d} w v) = at-name w ∙ rw (same-exactly n n .1 refl) (value-at byte (d + 1) f (omega (arith, w .colon .inside)) (part v))
 
