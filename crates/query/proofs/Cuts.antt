@@ -3,7 +3,7 @@
 use Prim.Native.Nat.{ℕ, zero, suc, _+_, _-_, _≤_, _<_}
 use mathlib.Core.Path.{_≡_, refl, sym, ap, ap₂, _∙_, subst}
 use mathlib.Core.Logic.{_⊎_, inl, inr, ⊎-elim, _↔_}
-use mathlib.Core.Bool.{Bool, true, false, true≢false}
+use mathlib.Core.Bool.{Bool, true, true≢false}
 use mathlib.Core.List.{List}
 use native.Mathlib.Omega.{arith}
 use native.Mathlib.Nat.{eq-or-lt-of-le}
@@ -109,9 +109,9 @@ module _ (item : ℕ → ℕ → Item) (is : ℕ → ℕ → Item → Type 0) (l
   taken-one (first g w) (none k) = absurd (not-both g w (k (w .start) (w .end) (w .cut)))
   taken-one {a} {e} (first g w) (first j v) =
       elim (decLt (w .start) (v .start)) [
-        | yes l ↦ absurd (not-both g w (v .before (w .start) (w .end) (w .cut) l))
+        | yes l ↦ absurd (not-both g w (v .before (w .start) (w .end) (w .cut) (omega arith)))
         | no l ↦ elim (decLt (v .start) (w .start)) [
-          | yes m ↦ absurd (not-both j v (w .before (v .start) (v .end) (v .cut) m))
+          | yes m ↦ absurd (not-both j v (w .before (v .start) (v .end) (v .cut) (omega arith)))
           | no m ↦
               let z : w .start ≡ v .start = omega arith in
               sym (item-here w) ∙ ap₂ item z (sym (cut-end (w .cut)) ∙ ap (λ (x : ℕ). firstAt comma x e) z ∙ cut-end (v .cut)) ∙ item-here v

@@ -18,9 +18,9 @@ use Rattle.query.specs.declared.items.Item.{Item}
 use Rattle.query.specs.declared.items.Item.the-variants.{Other, Broken}
 use Rattle.query.specs.declared.types.Cause.{Cause}
 use Rattle.query.specs.declared.types.Cause.the-variants.{EmptyValue}
-use Rattle.paths.proofs.PlaceLaws.{pick-ind, first-ge, first-le, first-hit, first-miss}
+use Rattle.paths.proofs.PlaceLaws.{pick-ind, first-ge, first-hit, first-miss}
 use Rattle.query.proofs.Standing.{count-none}
-use Rattle.query.proofs.Members.{Value, part, blank, value-is, value-at}
+use Rattle.query.proofs.Members.{Value, blank, value-is, value-at}
 use Rattle.query.proofs.Cuts.{cut-from, cut-to, cut-end, cut-first, cut-next}
 
 -- ---- how many places

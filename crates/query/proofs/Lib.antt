@@ -12,5 +12,6 @@ pub mod Going
 pub mod Answering
 pub mod Agree
 pub mod Stops
+pub mod Sample
 pub mod Numbers
 pub mod Outcomes

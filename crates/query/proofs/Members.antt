@@ -13,7 +13,7 @@ use Rattle.paths.specs.Places.{between, firstAt, pastLast}
 use Rattle.query.specs.Items.{Bits, solid, trimStart, trimEnd, valueAt, same, quoted, keyed, itemAt}
 use Rattle.query.specs.Walk.{framed, filled}
 use Rattle.query.specs.Members.{First, OnlyBlanks, Trimmed, Framed, Quoted, Whole, Member, no-colon, bad-name, other, empty, found}
-use Rattle.query.specs.declared.types.Cause.the-variants.{NoColon, BadName, EmptyValue}
+use Rattle.query.specs.declared.types.Cause.the-variants.{EmptyValue}
 use Rattle.query.specs.declared.items.Item.{Item}
 use Rattle.query.specs.declared.items.Item.the-variants.{Found, Other, Broken}
 use Rattle.paths.proofs.PlaceLaws.{pick-ind, first-ge, first-le, first-hit, first-miss, first-at, first-all, last-none, last-bounds, last-hit, last-miss, last-at}
