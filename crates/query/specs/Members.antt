@@ -24,7 +24,7 @@ pub record First (t : ℕ → Bool) (a e d : ℕ) : Type 0 where
 
 -- ---- a value
 
--- from a to e: "only blanks"
+-- "Only blanks" from a to e
 abbrev pub OnlyBlanks : (ℕ → ℕ) → ℕ → ℕ → Type 0
 OnlyBlanks byte a e = Nowhere (solid byte) a e
 
@@ -58,11 +58,11 @@ pub record Numbered (comma : ℕ → Bool) (a e m s f : ℕ) : Type 0 where
   pub cut : Cut comma a e s f
   pub number : count comma s ≡ count comma a + m
 
--- where `is` says what an item is to a step: every item is another
+-- where `is` says what an item is to a step: every item is whole and has another name
 abbrev pub AllOther : (ℕ → ℕ → Item → Type 0) → (ℕ → Bool) → ℕ → ℕ → Type 0
 AllOther is comma a e = (s f : ℕ) → Cut comma a e s f → is s f Other
 
--- "takes items from the left" and "stops at the first" that is not another: that one is r
+-- "takes items from the left" and "stops at the first" that is broken or has the name: that one is r
 pub record FirstIs (is : ℕ → ℕ → Item → Type 0) (comma : ℕ → Bool) (a e : ℕ) (r : Item) : Type 0 where
   pub start : ℕ
   pub end : ℕ
