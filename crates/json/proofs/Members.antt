@@ -14,7 +14,7 @@ use Rattle.rules.specs.Bytes.{is, colon, comma}
 use Rattle.rules.specs.Bits.{quoteBit, levelBit}
 use Rattle.paths.specs.Places.{byteIn, between, firstAt}
 use Rattle.rules.specs.Layout.{bitOf}
-use Rattle.query.specs.Items.{ruled, valueAt, same, quoted, keyed, itemAt, orElse, itemsIn}
+use Rattle.query.specs.Items.{ruled, valueAt, same, quoted, keyed, itemAt, orElse, firstItemIn}
 use Rattle.query.specs.declared.items.Item.{Item}
 use Rattle.query.specs.declared.items.Item.the-variants.{Other}
 use Rattle.paths.proofs.PlaceLaws.{first-at, first-all}
@@ -123,12 +123,12 @@ module _ (text : List ℕ) (k : ℕ) where
     abbrev entryOf : ℕ → ℕ → Item
     entryOf = itemAt (byteIn text) (ruled text) (suc k) n
 
-    items-last : (c a e b : ℕ) → firstAt (commasOf text k) a e ≡ b → e ≤ b → itemsIn entryOf (commasOf text k) (suc c) a e ≡ orElse (entryOf a b) Other
-    unfolding itemsIn
+    items-last : (c a e b : ℕ) → firstAt (commasOf text k) a e ≡ b → e ≤ b → firstItemIn entryOf (commasOf text k) (suc c) a e ≡ orElse (entryOf a b) Other
+    unfolding firstItemIn
     items-last c a e b h l = rw (h, le-ltb b e l)
 
-    items-more : (c a e b : ℕ) → firstAt (commasOf text k) a e ≡ b → b < e → itemsIn entryOf (commasOf text k) (suc c) a e ≡ orElse (entryOf a b) (itemsIn entryOf (commasOf text k) c (suc b) e)
-    unfolding itemsIn
+    items-more : (c a e b : ℕ) → firstAt (commasOf text k) a e ≡ b → b < e → firstItemIn entryOf (commasOf text k) (suc c) a e ≡ orElse (entryOf a b) (firstItemIn entryOf (commasOf text k) c (suc b) e)
+    unfolding firstItemIn
     items-more c a e b h l = rw (h, lt-ltb b e l, add-one b)
 
     entry-chosen : {w raw us w′ : List ℕ} (a : ℕ) (p : Pad) (b : Ws w) (s : Chars raw us) (b′ : Ws w′) (fs : Fields) (later : Item)
@@ -143,7 +143,7 @@ module _ (text : List ℕ) (k : ℕ) where
         rw (entry-item n a p b s b′ g h d) (chosen (same raw n) _ (rawNamed n fs) _ later (rw l v) o)
 
     pub names-taken : (a : ℕ) (ms : Entries) (c e : ℕ) → e ≡ a + length (entriesBytes ms) → length (entriesBytes ms) < c → Seg text a (entriesBytes ms) → At text a (out (suc k))
-        → deepFields (padFields a ms) + suc k ≤ 64 → Taken text (suc k) (rawNamed n (padFields a ms)) (itemsIn entryOf (commasOf text k) c a e)
+        → deepFields (padFields a ms) + suc k ≤ 64 → Taken text (suc k) (rawNamed n (padFields a ms)) (firstItemIn entryOf (commasOf text k) c a e)
     unfolding deep
     names-taken a (Entries.last-entry m) zero e q f g h d = absurd (not-suc-le-zero f)
     names-taken a (Entries.more-entries m ms) zero e q f g h d = absurd (not-suc-le-zero f)

@@ -2,8 +2,7 @@
 use mathlib.Core.Path.{_≡_, refl, ap, ap₂, _∙_}
 use mathlib.Core.Bool.{Bool, true, false}
 use mathlib.Core.List.{List, [], _∷_, _++_}
-use Prim.Native.Nat.{ℕ, zero, suc, _+_, _-_, _≤_}
-use native.Mathlib.Nat.{add-zero}
+use Prim.Native.Nat.{ℕ, suc, _+_, _-_, _≤_}
 use native.Mathlib.Omega.{arith}
 use borrow.Author.Tests.{ne-eqb, lt-ltb}
 use lib.ListN.{length, getD, length-append}
@@ -11,18 +10,10 @@ use Rattle.rules.specs.Layout.{listed}
 use Rattle.paths.specs.Places.{byteIn, pastLast}
 use Rattle.query.specs.Items.{isBlank, solid, trimStart, trimEnd, valueAt}
 use Rattle.query.specs.declared.items.Item.the-variants.{Found}
-use Rattle.paths.proofs.PlaceLaws.{first-at, first-all, last-here, last-next}
+use Rattle.paths.proofs.PlaceLaws.{first-at, first-all, last-at}
 use Rattle.texts.specs.Grammar.{Blank, Ws}
 use Rattle.json.proofs.Trace.{Seg, Never, never-more}
 use Rattle.json.proofs.Stretches.{seg-left, seg-right}
-
--- places at which the test fails are passed over from the right
-last-skip : (t : ℕ → Bool) (a b n : ℕ) → a ≤ b → Never t b n → pastLast t a (b + n) ≡ pastLast t a b
-last-skip t a b zero h k = ap (pastLast t a) (add-zero b)
-last-skip t a b (suc n) h k =
-    let e : b + suc n - 1 ≡ b + n = omega arith in
-    last-next t a (b + suc n) (omega arith) (k (b + suc n - 1) (omega arith) (omega arith))
-    ∙ ap (pastLast t a) e ∙ last-skip t a b n h (λ j l m. k j l (omega arith))
 
 module _ (text : List ℕ) where
   blank-here : (i : ℕ) {b : ℕ} → Blank b → getD text i 0 ≡ b → solid (byteIn text) i ≡ false
@@ -65,8 +56,8 @@ module _ (text : List ℕ) where
       record {
         start = st;
         end =
-            ap₂ (pastLast s) st l ∙ last-skip s m (m + length xs) (length w′) (omega arith) (ws-blank (m + length xs) b′ tail)
-            ∙ last-here s m (m + length xs) (omega (arith, h .size)) (ap s x ∙ h .last-solid);
+            ap₂ (pastLast s) st l
+            ∙ last-at s m (m + length xs) (m + length xs + length w′) (omega (arith, h .size)) (omega arith) (ap s x ∙ h .last-solid) (ws-blank (m + length xs) b′ tail);
       }
 
   -- the value there

@@ -13,7 +13,7 @@ use lib.ListN.{length, getD, length-append}
 use Rattle.rules.specs.Layout.{bitOf}
 use Rattle.paths.specs.Grammar.{In, Selector, name, number}
 use Rattle.paths.specs.Places.{byteIn}
-use Rattle.query.specs.Items.{ruled, solid, trimStart, itemAt, items, itemNo}
+use Rattle.query.specs.Items.{ruled, solid, trimStart, itemAt, firstItem, itemNo}
 use Rattle.query.specs.Walk.{ofItem, framed, filled, nameStep, numberStep, stepBy}
 use Rattle.query.specs.Answers.{refusalNumber}
 use Rattle.query.specs.declared.items.Item.{Item}
@@ -150,7 +150,7 @@ module _ (text : List ℕ) (k : ℕ) where
 
   object-step : (n : List ℕ) (a : ℕ) (xs : List ℕ) → Seg text a (0x7B ∷ (xs ++ (0x7D ∷ []))) → filled (byteIn text) a (a + length (0x7B ∷ (xs ++ (0x7D ∷ [])))) ≡ true
       → nameStep (byteIn text) (ruled text) (suc k) n a (a + length (0x7B ∷ (xs ++ (0x7D ∷ []))))
-      ≡ ofItem NoName (items (itemAt (byteIn text) (ruled text) (suc k) n) (commasOf text k) (suc a) (suc a + length xs))
+      ≡ ofItem NoName (firstItem (itemAt (byteIn text) (ruled text) (suc k) n) (commasOf text k) (suc a) (suc a + length xs))
   unfolding nameStep bitOf
   object-step n a xs g f = rw (is-framed 0x7B 0x7D a xs g, f, inner-end 0x7B 0x7D a xs g, add-one a)
 
@@ -172,7 +172,7 @@ module _ (text : List ℕ) (k : ℕ) where
 
   object-value : (s : Selector) (a : ℕ) (ms : Entries) → Good text k a (Bare.object ms)
       → StepTaken text (suc k) (rawChildren s (bareTree a (Bare.object ms))) (stepBy (byteIn text) (ruled text) (suc k) s a (a + length (bareBytes (Bare.object ms))))
-  unfolding items deep
+  unfolding firstItem deep
   object-value (name n) a ms g =
       let sg : Seg text (suc a) (entriesBytes ms) = seg-left text (suc a) (entriesBytes ms) (0x7D ∷ []) (g .seg .1) in
       let at : At text (suc a) (out (suc k)) = opened a 0x7B (g .at) (omega (arith, g .shallow)) (g .seg .0) refl in

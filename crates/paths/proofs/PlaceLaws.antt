@@ -1,11 +1,12 @@
 -- The laws of `firstAt` and `pastLast` by which loops are proved, by going from place to place.
 use Prim.Native.Nat.{ℕ, zero, suc, _+_, _-_, _≤_, _<_}
-use mathlib.Core.Path.{_≡_, refl, ap, _∙_, subst}
-use mathlib.Core.Bool.{Bool, true, false}
+use mathlib.Core.Path.{_≡_, refl, sym, ap, _∙_, subst}
+use mathlib.Core.Bool.{Bool, true, false, true≢false}
 use mathlib.Core.Logic.{⊎-elim}
 use mathlib.Core.List.{[], _∷_}
 use native.Mathlib.Omega.{arith}
 use native.Mathlib.Nat.{eq-or-lt-of-le}
+use native.Mathlib.Decide.{decLt}
 use native.Mathlib.Numerals.{add-one}
 use borrow.Author.Tests.{lt-ltb, le-ltb}
 use Rattle.rules.specs.Word.{pick, digit, count}
@@ -115,6 +116,41 @@ last-bounds t a e h = go (e - a) (omega arith)
     go : (k : ℕ) → a + k ≤ e → (a ≤ pastLastIn t k a) × (pastLastIn t k a ≤ e)
     go zero q = (omega arith, omega arith)
     go (suc k) q = pick-ind (λ n. (a ≤ n) × (n ≤ e)) (t (a + k)) _ _ (λ _. (omega arith, omega arith)) (λ _. go k (omega arith))
+
+-- before the end that was found, the test holds
+pub last-hit : (t : ℕ → Bool) (a e : ℕ) → a < pastLast t a e → t (pastLast t a e - 1) ≡ true
+unfolding pastLast pastLastIn
+last-hit t a e = go (e - a)
+  where
+    go : (k : ℕ) → a < pastLastIn t k a → t (pastLastIn t k a - 1) ≡ true
+    go zero = λ l. absurd (omega arith)
+    go (suc k) =
+        let z : a + suc k - 1 ≡ a + k = omega arith in
+        pick-ind (λ n. a < n → t (n - 1) ≡ true) (t (a + k)) (a + suc k) (pastLastIn t k a) (λ y _. ap t z ∙ y) (λ _. go k)
+
+-- and at no place from there on
+pub last-miss : (t : ℕ → Bool) (a e : ℕ) → a ≤ e → (k : ℕ) → pastLast t a e ≤ k → k < e → t k ≡ false
+unfolding pastLast pastLastIn
+last-miss t a e h k l m = go (e - a) k l (omega arith)
+  where
+    go : (c k : ℕ) → pastLastIn t c a ≤ k → k < a + c → t k ≡ false
+    go zero = λ k l m. absurd (omega arith)
+    go (suc c) =
+        pick-ind (λ n. (k : ℕ) → n ≤ k → k < a + suc c → t k ≡ false) (t (a + c)) (a + suc c) (pastLastIn t c a)
+        (λ _ k l m. absurd (omega arith))
+        (λ y k l m. let o : k ≤ a + c = omega arith in ⊎-elim (λ (q : k ≡ a + c). ap t q ∙ y) (λ q. go c k l q) (eq-or-lt-of-le o))
+
+-- the place b, where the test holds before it and fails from there on
+pub last-at : (t : ℕ → Bool) (a b e : ℕ) → a < b → b ≤ e → t (b - 1) ≡ true → ((k : ℕ) → b ≤ k → k < e → t k ≡ false) → pastLast t a e ≡ b
+last-at t a b e h m y none =
+    let i = last-bounds t a e (omega arith) in
+    elim (decLt (pastLast t a e) b) [
+      | yes l ↦ absurd (true≢false (sym y ∙ last-miss t a e (omega arith) (b - 1) (omega arith) (omega arith)))
+      | no l ↦ elim (decLt b (pastLast t a e)) [
+        | yes g ↦ absurd (true≢false (sym (last-hit t a e (omega arith)) ∙ none (pastLast t a e - 1) (omega arith) (omega arith)))
+        | no g ↦ omega arith
+      ]
+    ]
 
 -- ---- by number
 

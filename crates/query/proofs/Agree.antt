@@ -14,7 +14,7 @@ use Rattle.rules.proofs.LayoutLaws.{promised-bit}
 use Rattle.paths.specs.Places.{byteIn, firstIn, firstAt}
 use Rattle.paths.specs.Grammar.{Selector, name, number, Path}
 use Rattle.paths.specs.Path.{Reading, good, bad, readPath, large}
-use Rattle.query.specs.Items.{Bits, lent, ruled, solid, trimStart, trimEnd, valueAt, same, quoted, keyed, itemAt, orElse, itemsIn, items, itemNo}
+use Rattle.query.specs.Items.{Bits, lent, ruled, solid, trimStart, trimEnd, valueAt, same, quoted, keyed, itemAt, orElse, firstItemIn, firstItem, itemNo}
 use Rattle.query.specs.Walk.{onFound, ofItem, framed, filled, nameStep, numberStep, stepBy, walkFrom, walk}
 use Rattle.query.specs.Answers.{afterReading, answerOf}
 use Rattle.query.specs.declared.items.Item.{Item}
@@ -61,8 +61,8 @@ module _ (t u : ℕ → Bool) (n : ℕ) (h : (i : ℕ) → i < n → t i ≡ u i
 -- ---- items
 
 items-agree : (item other : ℕ → ℕ → Item) (t u : ℕ → Bool) (n : ℕ) → ((i : ℕ) → i < n → t i ≡ u i) → ((a e : ℕ) → a ≤ e → e ≤ n → item a e ≡ other a e)
-    → (c a e : ℕ) → a ≤ e → e ≤ n → itemsIn item t c a e ≡ itemsIn other u c a e
-unfolding itemsIn
+    → (c a e : ℕ) → a ≤ e → e ≤ n → firstItemIn item t c a e ≡ firstItemIn other u c a e
+unfolding firstItemIn
 items-agree item other t u n h same zero a e l m = refl
 items-agree item other t u n h same (suc c) a e l m =
     rw (first-agree t u n h a e l m)
@@ -71,8 +71,8 @@ items-agree item other t u n h same (suc c) a e l m =
     d : ℕ
     d = firstAt u a e
 
-    go : (b : Bool) → ltb d e ≡ b → (d + 1 ≤ e → itemsIn item t c (d + 1) e ≡ itemsIn other u c (d + 1) e)
-        → pick b (itemsIn item t c (d + 1) e) Items.Other ≡ pick b (itemsIn other u c (d + 1) e) Items.Other
+    go : (b : Bool) → ltb d e ≡ b → (d + 1 ≤ e → firstItemIn item t c (d + 1) e ≡ firstItemIn other u c (d + 1) e)
+        → pick b (firstItemIn item t c (d + 1) e) Items.Other ≡ pick b (firstItemIn other u c (d + 1) e) Items.Other
     go true q f = f (omega (arith, ltb-true d e q))
     go false q f = refl
 
@@ -104,7 +104,7 @@ module _ (byte : ℕ → ℕ) (n l : ℕ) (b c : Bits) (g : Agree n l b c) where
       )
 
   step-agree : (k : ℕ) (s : Selector) (a e : ℕ) → 1 ≤ k → k ≤ l → e ≤ n → stepBy byte b k s a e ≡ stepBy byte c k s a e
-  unfolding nameStep numberStep items
+  unfolding nameStep numberStep firstItem
   step-agree k (name m) a e o p h =
       when (framed byte 123 125 a e) (Refused NotObject) (λ q. let f = framed-long byte 123 125 a e q in
       when (filled byte a e) (Refused NoName) (λ _. ap (ofItem NoName) (items-agree (itemAt byte b k m) (itemAt byte c k m) (b .comma k) (c .comma k) n (λ i z. g .commas k i o p z) (λ a e i j. item-agree k m o p a e i j) (suc (e - 1 - (a + 1))) (a + 1) (e - 1) (omega arith) (omega arith))))

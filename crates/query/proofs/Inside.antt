@@ -11,7 +11,7 @@ use Rattle.rules.specs.Layout.{sizeOf, widthOf}
 use Rattle.paths.specs.Places.{byteIn, between, firstAt}
 use Rattle.paths.specs.Grammar.{Selector, name, number}
 use Rattle.paths.specs.Path.{Reading, good, bad, readPath, large}
-use Rattle.query.specs.Items.{Bits, lent, solid, trimStart, trimEnd, valueAt, same, quoted, keyed, itemAt, orElse, itemsIn, items, itemNo}
+use Rattle.query.specs.Items.{Bits, lent, solid, trimStart, trimEnd, valueAt, same, quoted, keyed, itemAt, orElse, firstItemIn, firstItem, itemNo}
 use Rattle.query.specs.Walk.{onFound, ofItem, framed, filled, nameStep, numberStep, stepBy, walkFrom, walk}
 use Rattle.query.specs.Answers.{afterReading, answerOf}
 use Rattle.query.specs.declared.types.Cause.the-variants.{NoColon, BadName, EmptyValue}
@@ -66,12 +66,12 @@ orElse-in n Items.Other later i j = j
 orElse-in n (Items.Broken why) later i j = tt
 
 items-in : (item : ℕ → ℕ → Item) (comma : ℕ → Bool) (n : ℕ) → ((a e : ℕ) → e ≤ n → WithinItem n (item a e))
-    → (c a e : ℕ) → a ≤ e → e ≤ n → WithinItem n (itemsIn item comma c a e)
-unfolding itemsIn
+    → (c a e : ℕ) → a ≤ e → e ≤ n → WithinItem n (firstItemIn item comma c a e)
+unfolding firstItemIn
 items-in item comma n each zero a e h l = tt
 items-in item comma n each (suc c) a e h l =
     let d = firstAt comma a e in
-    orElse-in n (item a d) (pick (ltb d e) (itemsIn item comma c (d + 1) e) Items.Other) (each a d (omega (arith, first-le comma a e h)))
+    orElse-in n (item a d) (pick (ltb d e) (firstItemIn item comma c (d + 1) e) Items.Other) (each a d (omega (arith, first-le comma a e h)))
     (pick-ind (WithinItem n) (ltb d e) _ _ (λ q. items-in item comma n each c (d + 1) e (omega (arith, ltb-true d e q)) l) (λ _. tt))
 
 itemNo-in : (byte : ℕ → ℕ) (comma : ℕ → Bool) (n m a e : ℕ) → a ≤ e → e ≤ n → WithinItem n (itemNo byte comma m a e)
@@ -89,12 +89,12 @@ of-in n none (Items.Broken why) i = tt
 
 module _ (byte : ℕ → ℕ) (bits : Bits) (n : ℕ) where
   pub name-in : (k : ℕ) (m : List ℕ) (a e : ℕ) → e ≤ n → InRecord n (nameStep byte bits k m a e)
-  unfolding nameStep items
+  unfolding nameStep firstItem
   name-in k m a e h =
       pick-ind (InRecord n) (framed byte 123 125 a e) _ _
       (λ q. let l = framed-long byte 123 125 a e q in
       pick-ind (InRecord n) (filled byte a e) _ _
-      (λ _. of-in n NoName (items (itemAt byte bits k m) (bits .comma k) (a + 1) (e - 1))
+      (λ _. of-in n NoName (firstItem (itemAt byte bits k m) (bits .comma k) (a + 1) (e - 1))
       (items-in (itemAt byte bits k m) (bits .comma k) n (λ b f i. item-in byte bits k m b f n i) (suc (e - 1 - (a + 1))) (a + 1) (e - 1) (omega arith) (omega arith)))
       (λ _. tt))
       (λ _. tt)

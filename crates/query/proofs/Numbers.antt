@@ -11,12 +11,12 @@ use lib.ListN.{length}
 use borrow.Author.Tests.{not-true, not-false, ltb-true, ltb-false, leb-true, leb-false, eqb-true, eqb-false, lt-ltb, le-ltb, le-leb, lt-leb, eq-eqb, ne-eqb}
 use Rattle.rules.specs.Word.{pick}
 use Rattle.rules.specs.Layout.{widthOf, sizeOf}
+use Rattle.rules.proofs.Booleans.{impossible}
 use Rattle.paths.specs.Grammar.{Selector, Path, RefusedAt}
 use Rattle.paths.specs.Path.{Reading, good, bad, readPath, large}
 use Rattle.query.specs.Items.{lent}
-use Rattle.query.specs.Walk.{walk}
 use Rattle.query.specs.Answers.{refusalNumber, numberOf, placeOf, afterReading, answerOf}
-use Rattle.query.specs.Conditions.{Sized, Levelled, Lendable, Brief, Walkable, Given, empty, long, levels-out, other-buffer, long-path, no-path, large-number, deep, walked, Walks, Halts, WalkStops}
+use Rattle.query.specs.Conditions.{Sized, Levelled, Lendable, Brief, Walkable, Given, empty, long, levels-out, other-buffer, long-path, no-path, large-number, deep, walked, Walks, WalkGives}
 use Rattle.query.specs.declared.types.Cause.{Cause}
 use Rattle.query.specs.declared.types.Refusal.{Refusal}
 use Rattle.query.specs.declared.types.Refusal.the-variants.{EmptyRecord, LongRecord, BadLevels, BadBuffer, BadPath, TooLarge, TooDeep, NotObject, NotArray, NoName, NoNumber, Broken}
@@ -24,7 +24,7 @@ use Rattle.query.specs.declared.types.Answer.{Answer}
 use Rattle.query.specs.declared.types.Answer.the-variants.{Found, Refused}
 use Rattle.paths.proofs.PlaceLaws.{pick-ind}
 use Rattle.paths.proofs.Reading.{reads, read-is-path, refused-is-place, place-is-refused}
-use Rattle.query.proofs.Stops.{walk-stops, walk-number}
+use Rattle.query.proofs.Stops.{walk-gives, walk-number}
 
 module _ (text words : List ℕ) (levels : ℕ) (path : List ℕ) where
   -- ---- what is answered is given
@@ -34,14 +34,14 @@ module _ (text words : List ℕ) (levels : ℕ) (path : List ℕ) where
     where
       go : (a b : Bool) → leb 1 levels ≡ a → leb levels 16 ≡ b → not (a && b) ≡ false → (1 ≤ levels) × (levels ≤ 16)
       go true true p q e = (leb-true 1 levels p, leb-true levels 16 q)
-      go true false p q e = absurd (let z : _≡_ {A = ℕ} 0 1 = cc in omega arith)
-      go false b p q e = absurd (let z : _≡_ {A = ℕ} 0 1 = cc in omega arith)
+      go true false p q e = impossible (cc)
+      go false b p q e = impossible (cc)
 
   levels-not : not (leb 1 levels && leb levels 16) ≡ true → (levels ≡ 0) ⊎ (16 < levels)
   levels-not e = go (leb 1 levels) (leb levels 16) refl refl e
     where
       go : (a b : Bool) → leb 1 levels ≡ a → leb levels 16 ≡ b → not (a && b) ≡ true → (levels ≡ 0) ⊎ (16 < levels)
-      go true true p q e = absurd (let z : _≡_ {A = ℕ} 0 1 = cc in omega arith)
+      go true true p q e = impossible (cc)
       go true false p q e = inr (leb-false levels 16 q)
       go false b p q e = inl (omega (arith, leb-false 1 levels p))
 
@@ -51,7 +51,7 @@ module _ (text words : List ℕ) (levels : ℕ) (path : List ℕ) where
       let w = read-is-path path ss e in
       pick-ind (Given text words levels path) (large ss) (Refused TooLarge) _ (λ l. large-number h w l)
       (λ l. pick-ind (Given text words levels path) (ltb levels (length ss)) (Refused TooDeep) _ (λ d. deep h w l (ltb-true levels (length ss) d))
-      (λ d. walked (record { brief = h; parsed = w; small = l; few = ltb-false levels (length ss) d }) refl))
+      (λ d. walked (record { brief = h; parsed = w; small = l; few = ltb-false levels (length ss) d }) (walk-gives text (lent words levels (widthOf (length text))) ss _ .0 refl)))
 
   pub answer-given : Given text words levels path (answerOf text words levels path)
   unfolding answerOf
@@ -96,11 +96,11 @@ module _ (text words : List ℕ) (levels : ℕ) (path : List ℕ) where
   given-answer (no-path {p} h n) = past-brief h (place-is-refused path p n)
   given-answer (large-number h w l) = past-brief h (reads w) ∙ rw l
   given-answer (deep {ss} h w l d) = past-brief h (reads w) ∙ rw (l, lt-ltb levels (length ss) d)
-  given-answer (walked {r} {ss} w e) = past-brief (w .brief) (reads (w .parsed)) ∙ rw (w .small, le-ltb levels (length ss) (w .few)) e
+  given-answer (walked {r} {ss} w g) = past-brief (w .brief) (reads (w .parsed)) ∙ rw (w .small, le-ltb levels (length ss) (w .few)) (walk-gives text (lent words levels (widthOf (length text))) ss r .1 g)
 
   -- a query gives an answer exactly where it is given
-  pub exactly : (r : Answer) → (answerOf text words levels path ≡ r) ↔ (Given text words levels path r)
-  exactly r = (λ e. subst (Given text words levels path) e answer-given, given-answer)
+  pub answer-exactly : (r : Answer) → (answerOf text words levels path ≡ r) ↔ (Given text words levels path r)
+  answer-exactly r = (λ e. subst (Given text words levels path) e answer-given, given-answer)
 
   -- ---- by number
 
@@ -115,28 +115,28 @@ module _ (text words : List ℕ) (levels : ℕ) (path : List ℕ) where
       (pick (eqb n 20) ((p : ℕ) × Brief text words levels path × RefusedAt path p)
       (pick (eqb n 21) ((Lendable text words levels × (1024 < length path)) ⊎ ((ss : List Selector) × Brief text words levels path × Path path ss × (large ss ≡ true)))
       (pick (eqb n 22) ((ss : List Selector) × Brief text words levels path × Path path ss × (large ss ≡ false) × (levels < length ss))
-      (pick (eqb n 23) (Halts text words levels path NotObject)
-      (pick (eqb n 24) (Halts text words levels path NotArray)
-      (pick (eqb n 25) (Halts text words levels path NoName)
-      (pick (eqb n 26) (Halts text words levels path NoNumber) ((why : Cause) × Halts text words levels path (Broken why)))))))))))))
+      (pick (eqb n 23) (Walks text words levels path (Refused NotObject))
+      (pick (eqb n 24) (Walks text words levels path (Refused NotArray))
+      (pick (eqb n 25) (Walks text words levels path (Refused NoName))
+      (pick (eqb n 26) (Walks text words levels path (Refused NoNumber)) ((why : Cause) × Walks text words levels path (Refused (Broken why))))))))))))))
 
-  halted : {ss : List Selector} → Walkable text words levels path ss → (why : Refusal) → WalkStops text (lent words levels (widthOf (length text))) ss why → Condition (refusalNumber why)
-  halted w EmptyRecord h = absurd (omega (arith, walk-number h))
-  halted w LongRecord h = absurd (omega (arith, walk-number h))
-  halted w BadLevels h = absurd (omega (arith, walk-number h))
-  halted w BadBuffer h = absurd (omega (arith, walk-number h))
-  halted w (BadPath p) h = absurd (omega (arith, walk-number h))
-  halted w TooLarge h = absurd (omega (arith, walk-number h))
-  halted w TooDeep h = absurd (omega (arith, walk-number h))
-  halted {ss} w NotObject h = record { selectors = ss; walkable = w; stops = h }
-  halted {ss} w NotArray h = record { selectors = ss; walkable = w; stops = h }
-  halted {ss} w NoName h = record { selectors = ss; walkable = w; stops = h }
-  halted {ss} w NoNumber h = record { selectors = ss; walkable = w; stops = h }
-  halted {ss} w (Broken why) h = (why, record { selectors = ss; walkable = w; stops = h })
-
-  walked-number : {ss : List Selector} → Walkable text words levels path ss → (r : Answer) → walk text (lent words levels (widthOf (length text))) ss ≡ r → Condition (numberOf r)
-  walked-number {ss} w (Found s e) q = (s, e, record { selectors = ss; walkable = w; gives = q })
-  walked-number {ss} w (Refused why) q = halted w why (walk-stops text (lent words levels (widthOf (length text))) ss why .0 q)
+  walked-number : {ss : List Selector} → Walkable text words levels path ss → (r : Answer) → WalkGives text (lent words levels (widthOf (length text))) ss r → Condition (numberOf r)
+  walked-number {ss} w (Found s e) g = (s, e, record { selectors = ss; walkable = w; gives = g })
+  walked-number {ss} w (Refused why) g = halted why g (walk-number text (lent words levels (widthOf (length text))) ss g)
+    where
+      halted : (why : Refusal) → WalkGives text (lent words levels (widthOf (length text))) ss (Refused why) → 23 ≤ refusalNumber why → Condition (refusalNumber why)
+      halted EmptyRecord g l = absurd (omega arith)
+      halted LongRecord g l = absurd (omega arith)
+      halted BadLevels g l = absurd (omega arith)
+      halted BadBuffer g l = absurd (omega arith)
+      halted (BadPath p) g l = absurd (omega arith)
+      halted TooLarge g l = absurd (omega arith)
+      halted TooDeep g l = absurd (omega arith)
+      halted NotObject g l = record { selectors = ss; walkable = w; gives = g }
+      halted NotArray g l = record { selectors = ss; walkable = w; gives = g }
+      halted NoName g l = record { selectors = ss; walkable = w; gives = g }
+      halted NoNumber g l = record { selectors = ss; walkable = w; gives = g }
+      halted (Broken why) g l = (why, record { selectors = ss; walkable = w; gives = g })
 
   numbered : {r : Answer} → Given text words levels path r → Condition (numberOf r)
   numbered (empty e) = e
@@ -147,7 +147,7 @@ module _ (text words : List ℕ) (levels : ℕ) (path : List ℕ) where
   numbered (no-path {p} h n) = (p, h, n)
   numbered (large-number {ss} h w l) = inr (ss, h, w, l)
   numbered (deep {ss} h w l d) = (ss, h, w, l, d)
-  numbered (walked {r} w e) = walked-number w r e
+  numbered (walked {r} w g) = walked-number w r g
 
   because : {n : ℕ} → numberOf (answerOf text words levels path) ≡ n → Condition n
   because e = subst Condition e (numbered answer-given)
@@ -155,12 +155,12 @@ module _ (text words : List ℕ) (levels : ℕ) (path : List ℕ) where
   so : {r : Answer} → Given text words levels path r → numberOf (answerOf text words levels path) ≡ numberOf r
   so g = ap numberOf (given-answer g)
 
-  halts-so : {why : Refusal} → Halts text words levels path why → numberOf (answerOf text words levels path) ≡ refusalNumber why
-  halts-so {why} h = so (walked {r = Refused why} (h .walkable) (walk-stops text (lent words levels (widthOf (length text))) (h .selectors) why .1 (h .stops)))
+  walks-so : {r : Answer} → Walks text words levels path r → numberOf (answerOf text words levels path) ≡ numberOf r
+  walks-so h = so (walked (h .walkable) (h .gives))
 
   -- done
   pub number-0 : (numberOf (answerOf text words levels path) ≡ 0) ↔ ((s : ℕ) × (e : ℕ) × Walks text words levels path (Found s e))
-  number-0 = (λ e. because e, λ h. so (walked {r = Found (h .0) (h .1)} (h .2 .walkable) (h .2 .gives)))
+  number-0 = (λ e. because e, λ h. walks-so (h .2))
 
   -- "record empty"
   pub number-1 : (numberOf (answerOf text words levels path) ≡ 1) ↔ (length text ≡ 0)
@@ -196,19 +196,19 @@ module _ (text words : List ℕ) (levels : ℕ) (path : List ℕ) where
   number-22 = (λ e. because e, λ h. so (deep (h .1) (h .2) (h .3) (h .4)))
 
   -- "value is not an object / not an array"
-  pub number-23 : (numberOf (answerOf text words levels path) ≡ 23) ↔ (Halts text words levels path NotObject)
-  number-23 = (λ e. because e, λ h. halts-so h)
+  pub number-23 : (numberOf (answerOf text words levels path) ≡ 23) ↔ (Walks text words levels path (Refused NotObject))
+  number-23 = (λ e. because e, λ h. walks-so h)
 
-  pub number-24 : (numberOf (answerOf text words levels path) ≡ 24) ↔ (Halts text words levels path NotArray)
-  number-24 = (λ e. because e, λ h. halts-so h)
+  pub number-24 : (numberOf (answerOf text words levels path) ≡ 24) ↔ (Walks text words levels path (Refused NotArray))
+  number-24 = (λ e. because e, λ h. walks-so h)
 
   -- "no such name / no such number"
-  pub number-25 : (numberOf (answerOf text words levels path) ≡ 25) ↔ (Halts text words levels path NoName)
-  number-25 = (λ e. because e, λ h. halts-so h)
+  pub number-25 : (numberOf (answerOf text words levels path) ≡ 25) ↔ (Walks text words levels path (Refused NoName))
+  number-25 = (λ e. because e, λ h. walks-so h)
 
-  pub number-26 : (numberOf (answerOf text words levels path) ≡ 26) ↔ (Halts text words levels path NoNumber)
-  number-26 = (λ e. because e, λ h. halts-so h)
+  pub number-26 : (numberOf (answerOf text words levels path) ≡ 26) ↔ (Walks text words levels path (Refused NoNumber))
+  number-26 = (λ e. because e, λ h. walks-so h)
 
   -- "broken item", whatever its cause
-  pub number-27 : (numberOf (answerOf text words levels path) ≡ 27) ↔ ((why : Cause) × Halts text words levels path (Broken why))
-  number-27 = (λ e. because e, λ h. halts-so (h .1))
+  pub number-27 : (numberOf (answerOf text words levels path) ≡ 27) ↔ ((why : Cause) × Walks text words levels path (Refused (Broken why)))
+  number-27 = (λ e. because e, λ h. walks-so (h .1))

@@ -1,122 +1,170 @@
--- A walk is refused exactly where a step of it stops, and for that step's reason. By cases on the tests of a step.
+-- A walk gives an answer exactly where its steps do, one after another, as the definitions say it of places. By cases on the tests of a step, each of which
+-- says what it should.
 use Prim.Native.Nat.{ℕ, _+_, _-_, _≤_}
-use mathlib.Core.Path.{_≡_, refl, ap, _∙_}
-use mathlib.Core.Bool.{Bool, true, false}
+use mathlib.Core.Path.{_≡_, refl, subst}
+use mathlib.Core.Bool.{true, false, not-eq-not}
 use mathlib.Core.List.{List, [], _∷_}
-use mathlib.Core.Logic.{_⊎_, inl, inr, ⊎-elim, _↔_}
+use mathlib.Core.Logic.{_↔_}
 use native.Mathlib.Omega.{arith}
-use lib.Dec.{ltb}
 use lib.ListN.{length}
-use Rattle.rules.specs.Word.{pick}
 use Rattle.paths.specs.Places.{byteIn}
 use Rattle.paths.specs.Grammar.{Selector, name, number}
-use Rattle.query.specs.Items.{Bits, trimStart, trimEnd, valueAt, itemAt, items, itemNo}
+use Rattle.query.specs.Items.{Bits, itemAt, firstItem}
 use Rattle.query.specs.Walk.{onFound, ofItem, framed, filled, nameStep, numberStep, stepBy, walkFrom, walk}
+use Rattle.query.specs.Members.{OnlyBlanks, Framed}
 use Rattle.query.specs.Answers.{refusalNumber}
-use Rattle.query.specs.Conditions.{Stops, not-object, not-array, no-member, no-name, no-element, no-number, broken-member, broken-element, StopsFrom, here, later, WalkStops, blank, within}
+use Rattle.query.specs.Conditions.{StepGives, not-object, no-member, no-name, broken-member, member, not-array, no-element, no-number, broken-element, element, StepsGive, done, here, later, WalkGives, blank, within}
 use Rattle.query.specs.declared.items.Item.{Item}
 use Rattle.query.specs.declared.items.Item.the-variants as Items
 use Rattle.query.specs.declared.types.Cause.the-variants.{EmptyValue}
 use Rattle.query.specs.declared.types.Refusal.{Refusal}
-use Rattle.query.specs.declared.types.Refusal.the-variants.{NotObject, NotArray, NoName, NoNumber, Broken}
+use Rattle.query.specs.declared.types.Refusal.the-variants.{NoName, NoNumber, Broken}
 use Rattle.query.specs.declared.types.Answer.{Answer}
 use Rattle.query.specs.declared.types.Answer.the-variants.{Found, Refused}
+use Rattle.paths.proofs.PlaceLaws.{pick-ind}
+use Rattle.query.proofs.Members as Values
+use Rattle.query.proofs.Members.{Value, value-is, value-at, framed-exactly, filled-exactly}
+use Rattle.query.proofs.Borders.{found-stops, broken-stops, no-such-name, first-stops}
+use Rattle.query.proofs.ItemCount.{ByNumber, few, one, number-exactly}
 
 module _ (byte : ℕ → ℕ) (bits : Bits) where
-  name-stops : (k : ℕ) (n : List ℕ) (a e : ℕ) (why : Refusal) → nameStep byte bits k n a e ≡ Refused why → Stops byte bits k (name n) a e why
+  -- ---- a step
+
+  module _ (head tail a e : ℕ) where
+    unframed : framed byte head tail a e ≡ false → Framed byte head tail a e → ⊥
+    unframed f w = not-eq-not .1 f (framed-exactly byte head tail a e .1 w)
+
+    not-framed : (Framed byte head tail a e → ⊥) → framed byte head tail a e ≡ false
+    not-framed g = not-eq-not .0 (λ q. g (framed-exactly byte head tail a e .0 q))
+
+    module _ (w : Framed byte head tail a e) where
+      filled-not : filled byte a e ≡ true → OnlyBlanks byte (a + 1) (e - 1) → ⊥
+      filled-not f o = not-eq-not .1 f (filled-exactly byte a e (w .long) .1 o)
+
+      filled-so : (OnlyBlanks byte (a + 1) (e - 1) → ⊥) → filled byte a e ≡ true
+      filled-so g = not-eq-not .0 (λ q. g (filled-exactly byte a e (w .long) .0 q))
+
+  name-is : (k : ℕ) (n : List ℕ) (a e : ℕ) → StepGives byte bits k (name n) a e (nameStep byte bits k n a e)
   unfolding nameStep
-  name-stops k n a e why q = go (framed byte 123 125 a e) (filled byte a e) (items (itemAt byte bits k n) (bits .comma k) (a + 1) (e - 1)) refl refl refl q
+  name-is k n a e =
+      let P = StepGives byte bits k (name n) a e in
+      pick-ind P (framed byte 123 125 a e) _ _
+      (λ f. let w = framed-exactly byte 123 125 a e .0 f in
+      pick-ind P (filled byte a e) _ _ (λ g. go w (filled-not 123 125 a e w g) (firstItem (itemAt byte bits k n) (bits .comma k) (a + 1) (e - 1)) refl)
+      (λ g. no-member w (filled-exactly byte a e (w .long) .0 g)))
+      (λ f. not-object (unframed 123 125 a e f))
     where
-      go : (x y : Bool) (it : Item) → framed byte 123 125 a e ≡ x → filled byte a e ≡ y → items (itemAt byte bits k n) (bits .comma k) (a + 1) (e - 1) ≡ it
-          → pick x (pick y (ofItem NoName it) (Refused NoName)) (Refused NotObject) ≡ Refused why → Stops byte bits k (name n) a e why
-      go false y it f g h q = let z : why ≡ NotObject = cc in rw z (not-object f)
-      go true false it f g h q = let z : why ≡ NoName = cc in rw z (no-member f g)
-      go true true (Items.Found s t) f g h q = absurd (let z : _≡_ {A = ℕ} 0 1 = cc in omega arith)
-      go true true Items.Other f g h q = let z : why ≡ NoName = cc in rw z (no-name f g h)
-      go true true (Items.Broken w) f g h q = let z : why ≡ Broken w = cc in rw z (broken-member f g h)
+      go : Framed byte 123 125 a e → (OnlyBlanks byte (a + 1) (e - 1) → ⊥) → (it : Item) → firstItem (itemAt byte bits k n) (bits .comma k) (a + 1) (e - 1) ≡ it
+          → StepGives byte bits k (name n) a e (ofItem NoName it)
+      go w u (Items.Found p q) h = member w u (first-stops byte bits k n (a + 1) (e - 1) (omega arith) (Items.Found p q) found-stops .0 h)
+      go w u Items.Other h = no-name w u (no-such-name byte bits k n (a + 1) (e - 1) (omega arith) .0 h)
+      go w u (Items.Broken why) h = broken-member w u (first-stops byte bits k n (a + 1) (e - 1) (omega arith) (Items.Broken why) broken-stops .0 h)
 
-  number-stops : (k m a e : ℕ) (why : Refusal) → numberStep byte bits k m a e ≡ Refused why → Stops byte bits k (number m) a e why
+  number-is : (k m a e : ℕ) → StepGives byte bits k (number m) a e (numberStep byte bits k m a e)
   unfolding numberStep
-  number-stops k m a e why q = go (framed byte 91 93 a e) (filled byte a e) (itemNo byte (bits .comma k) m (a + 1) (e - 1)) refl refl refl q
+  number-is k m a e =
+      let P = StepGives byte bits k (number m) a e in
+      pick-ind P (framed byte 91 93 a e) _ _
+      (λ f. let w = framed-exactly byte 91 93 a e .0 f in
+      pick-ind P (filled byte a e) _ _ (λ g. go w (filled-not 91 93 a e w g) (number-exactly byte (bits .comma k) m (a + 1) (e - 1) (omega arith) _ .0 refl))
+      (λ g. no-element w (filled-exactly byte a e (w .long) .0 g)))
+      (λ f. not-array (unframed 91 93 a e f))
     where
-      go : (x y : Bool) (it : Item) → framed byte 91 93 a e ≡ x → filled byte a e ≡ y → itemNo byte (bits .comma k) m (a + 1) (e - 1) ≡ it
-          → pick x (pick y (ofItem NoNumber it) (Refused NoNumber)) (Refused NotArray) ≡ Refused why → Stops byte bits k (number m) a e why
-      go false y it f g h q = let z : why ≡ NotArray = cc in rw z (not-array f)
-      go true false it f g h q = let z : why ≡ NoNumber = cc in rw z (no-element f g)
-      go true true (Items.Found s t) f g h q = absurd (let z : _≡_ {A = ℕ} 0 1 = cc in omega arith)
-      go true true Items.Other f g h q = let z : why ≡ NoNumber = cc in rw z (no-number f g h)
-      go true true (Items.Broken w) f g h q = let z : why ≡ Broken w = cc in rw z (broken-element f g h)
+      go : {it : Item} → Framed byte 91 93 a e → (OnlyBlanks byte (a + 1) (e - 1) → ⊥) → ByNumber byte (bits .comma k) m (a + 1) (e - 1) it
+          → StepGives byte bits k (number m) a e (ofItem NoNumber it)
+      go w u (few c) = no-number w u c
+      go w u (one n (Values.part v)) = element w u n v
+      go w u (one n (Values.blank o)) = broken-element w u n o
 
-  stops-step : {k a e : ℕ} {s : Selector} {why : Refusal} → Stops byte bits k s a e why → stepBy byte bits k s a e ≡ Refused why
+  -- past the tests of a value's ends
+  module _ (k a e : ℕ) (u : OnlyBlanks byte (a + 1) (e - 1) → ⊥) where
+    name-past : (n : List ℕ) {it : Item} → Framed byte 123 125 a e → (a + 1 ≤ e - 1 → firstItem (itemAt byte bits k n) (bits .comma k) (a + 1) (e - 1) ≡ it)
+        → nameStep byte bits k n a e ≡ ofItem NoName it
+    unfolding nameStep
+    name-past n w h = let l = w .long in rw (framed-exactly byte 123 125 a e .1 w, filled-so 123 125 a e w u, h (omega arith))
+
+    number-past : (m : ℕ) {it : Item} → Framed byte 91 93 a e → ByNumber byte (bits .comma k) m (a + 1) (e - 1) it → numberStep byte bits k m a e ≡ ofItem NoNumber it
+    unfolding numberStep
+    number-past m {it} w x =
+        let l = w .long in
+        rw (framed-exactly byte 91 93 a e .1 w, filled-so 91 93 a e w u, number-exactly byte (bits .comma k) m (a + 1) (e - 1) (omega arith) it .1 x)
+
+  gives-step : {k a e : ℕ} {s : Selector} {r : Answer} → StepGives byte bits k s a e r → stepBy byte bits k s a e ≡ r
   unfolding nameStep numberStep
-  stops-step (not-object f) = rw f
-  stops-step (not-array f) = rw f
-  stops-step (no-member f g) = rw (f, g)
-  stops-step (no-name f g h) = rw (f, g, h)
-  stops-step (no-element f g) = rw (f, g)
-  stops-step (no-number f g h) = rw (f, g, h)
-  stops-step (broken-member f g h) = rw (f, g, h)
-  stops-step (broken-element f g h) = rw (f, g, h)
+  gives-step (not-object {n} {a} {e} g) = rw (not-framed 123 125 a e g)
+  gives-step (no-member {n} {a} {e} w o) = rw (framed-exactly byte 123 125 a e .1 w, filled-exactly byte a e (w .long) .1 o)
+  gives-step {k} {a} {e} (no-name {n} w u h) = name-past k a e u n w (λ l. no-such-name byte bits k n (a + 1) (e - 1) l .1 h)
+  gives-step {k} {a} {e} (broken-member {n} {why} w u h) = name-past k a e u n w (λ l. first-stops byte bits k n (a + 1) (e - 1) l (Items.Broken why) broken-stops .1 h)
+  gives-step {k} {a} {e} (member {n} {p} {q} w u h) = name-past k a e u n w (λ l. first-stops byte bits k n (a + 1) (e - 1) l (Items.Found p q) found-stops .1 h)
+  gives-step (not-array {m} {a} {e} g) = rw (not-framed 91 93 a e g)
+  gives-step (no-element {m} {a} {e} w o) = rw (framed-exactly byte 91 93 a e .1 w, filled-exactly byte a e (w .long) .1 o)
+  gives-step {k} {a} {e} (no-number {m} w u c) = number-past k a e u m w (few c)
+  gives-step {k} {a} {e} (broken-element {m} w u n o) = number-past k a e u m w (one n (Values.blank o))
+  gives-step {k} {a} {e} (element {m} w u n v) = number-past k a e u m w (one n (Values.part v))
 
-  -- 23 to 27 of a step
-  pub step-stops : (k : ℕ) (s : Selector) (a e : ℕ) (why : Refusal) → (stepBy byte bits k s a e ≡ Refused why) ↔ (Stops byte bits k s a e why)
-  step-stops k (name n) a e why = (name-stops k n a e why, λ h. stops-step h)
-  step-stops k (number m) a e why = (number-stops k m a e why, λ h. stops-step h)
+  step-is : (k : ℕ) (s : Selector) (a e : ℕ) → StepGives byte bits k s a e (stepBy byte bits k s a e)
+  step-is k (name n) a e = name-is k n a e
+  step-is k (number m) a e = number-is k m a e
 
-  from-stops : (k : ℕ) (ss : List Selector) (a e : ℕ) (why : Refusal) → walkFrom byte bits k ss a e ≡ Refused why → StopsFrom byte bits k ss a e why
+  -- 23 to 27 of a step, and its part
+  pub step-gives : (k : ℕ) (s : Selector) (a e : ℕ) (r : Answer) → (stepBy byte bits k s a e ≡ r) ↔ StepGives byte bits k s a e r
+  step-gives k s a e r = (λ q. subst (StepGives byte bits k s a e) q (step-is k s a e), gives-step)
+
+  -- ---- the steps that are left
+
+  from-is : (k : ℕ) (ss : List Selector) (a e : ℕ) → StepsGive byte bits k ss a e (walkFrom byte bits k ss a e)
   unfolding walkFrom
-  from-stops k [] a e why q = absurd (let z : _≡_ {A = ℕ} 0 1 = cc in omega arith)
-  from-stops k (s ∷ ss) a e why q = go (stepBy byte bits k s a e) refl q (λ b f r. from-stops (k + 1) ss b f why r)
+  from-is k [] a e = done
+  from-is k (s ∷ ss) a e = go (stepBy byte bits k s a e) (step-is k s a e) (λ b f. from-is (k + 1) ss b f)
     where
-      go : (r : Answer) → stepBy byte bits k s a e ≡ r → onFound r (λ b f. walkFrom byte bits (k + 1) ss b f) Refused ≡ Refused why
-          → ((b f : ℕ) → walkFrom byte bits (k + 1) ss b f ≡ Refused why → StopsFrom byte bits (k + 1) ss b f why) → StopsFrom byte bits k (s ∷ ss) a e why
-      go (Found b f) h q ih = later h (ih b f q)
-      go (Refused w) h q ih = let z : w ≡ why = cc in here (step-stops k s a e why .0 (h ∙ ap Refused z))
+      go : (r : Answer) → StepGives byte bits k s a e r → ((b f : ℕ) → StepsGive byte bits (k + 1) ss b f (walkFrom byte bits (k + 1) ss b f))
+          → StepsGive byte bits k (s ∷ ss) a e (onFound r (λ b f. walkFrom byte bits (k + 1) ss b f) Refused)
+      go (Found b f) g ih = later g (ih b f)
+      go (Refused why) g ih = here g
 
-  stops-from : {k a e : ℕ} {ss : List Selector} {why : Refusal} → StopsFrom byte bits k ss a e why → walkFrom byte bits k ss a e ≡ Refused why
+  gives-from : {k a e : ℕ} {ss : List Selector} {r : Answer} → StepsGive byte bits k ss a e r → walkFrom byte bits k ss a e ≡ r
   unfolding walkFrom
-  stops-from (here {k} {a} {e} {s} {ss} {why} h) = rw (step-stops k s a e why .1 h)
-  stops-from (later h l) = rw h (stops-from l)
+  gives-from done = refl
+  gives-from (here g) = rw (gives-step g)
+  gives-from (later g l) = rw (gives-step g) (gives-from l)
 
-  -- a step gives no smaller number
-  stops-number : {k a e : ℕ} {s : Selector} {why : Refusal} → Stops byte bits k s a e why → 23 ≤ refusalNumber why
-  stops-number (not-object f) = omega arith
-  stops-number (not-array f) = omega arith
-  stops-number (no-member f g) = omega arith
-  stops-number (no-name f g h) = omega arith
-  stops-number (no-element f g) = omega arith
-  stops-number (no-number f g h) = omega arith
-  stops-number (broken-member f g h) = omega arith
-  stops-number (broken-element f g h) = omega arith
+  -- a step that stops gives no smaller number
+  step-number : {k a e : ℕ} {s : Selector} {why : Refusal} → StepGives byte bits k s a e (Refused why) → 23 ≤ refusalNumber why
+  step-number (not-object g) = omega arith
+  step-number (no-member w o) = omega arith
+  step-number (no-name w u h) = omega arith
+  step-number (broken-member w u h) = omega arith
+  step-number (not-array g) = omega arith
+  step-number (no-element w o) = omega arith
+  step-number (no-number w u c) = omega arith
+  step-number (broken-element w u n o) = omega arith
 
-  from-number : {k a e : ℕ} {ss : List Selector} {why : Refusal} → StopsFrom byte bits k ss a e why → 23 ≤ refusalNumber why
-  from-number (here h) = stops-number h
-  from-number (later h l) = from-number l
+  from-number : {k a e : ℕ} {ss : List Selector} {why : Refusal} → StepsGive byte bits k ss a e (Refused why) → 23 ≤ refusalNumber why
+  from-number (here g) = step-number g
+  from-number (later g l) = from-number l
 
--- a value is found, or empty
-value-is : (byte : ℕ → ℕ) (a e : ℕ) → (valueAt byte a e ≡ Items.Found (trimStart byte a e) (trimEnd byte a e)) ⊎ (valueAt byte a e ≡ Items.Broken EmptyValue)
-unfolding valueAt
-value-is byte a e = go (ltb (trimStart byte a e) (trimEnd byte a e))
-  where
-    go : (b : Bool) {x y : Item} → (pick b x y ≡ x) ⊎ (pick b x y ≡ y)
-    go true = inl refl
-    go false = inr refl
+-- ---- the walk
 
-walk-back : {text : List ℕ} {bits : Bits} {ss : List Selector} {why : Refusal} → WalkStops text bits ss why → walk text bits ss ≡ Refused why
-unfolding walk
-walk-back (blank h) = rw h
-walk-back {text} {bits} (within h l) = rw h (stops-from (byteIn text) bits l)
+module _ (text : List ℕ) (bits : Bits) (ss : List Selector) where
+  walk-is : WalkGives text bits ss (walk text bits ss)
+  unfolding walk
+  walk-is = go (value-is (byteIn text) 0 (length text) (omega arith))
+    where
+      go : {it : Item} → Value (byteIn text) 0 (length text) it
+          → WalkGives text bits ss (onFound (ofItem (Broken EmptyValue) it) (λ a e. walkFrom (byteIn text) bits 1 ss a e) Refused)
+      go (Values.part {p} {q} v) = within v (from-is (byteIn text) bits 1 ss p q)
+      go (Values.blank o) = blank o
 
--- 23 to 27 of a walk
-pub walk-stops : (text : List ℕ) (bits : Bits) (ss : List Selector) (why : Refusal) → (walk text bits ss ≡ Refused why) ↔ (WalkStops text bits ss why)
-unfolding walk
-walk-stops text bits ss why =
-    (λ q. ⊎-elim (λ h. within h (from-stops (byteIn text) bits 1 ss _ _ why (rw h at q))) (λ h. empty h (rw h at q)) (value-is (byteIn text) 0 (length text)), λ h. walk-back h)
-  where
-    empty : valueAt (byteIn text) 0 (length text) ≡ Items.Broken EmptyValue → _≡_ {A = Answer} (Refused (Broken EmptyValue)) (Refused why) → WalkStops text bits ss why
-    empty h q = let z : why ≡ Broken EmptyValue = cc in rw z (blank h)
+  gives-walk : {r : Answer} → WalkGives text bits ss r → walk text bits ss ≡ r
+  unfolding walk
+  gives-walk (blank o) = rw (value-at (byteIn text) 0 (length text) (omega arith) (Values.blank o))
+  gives-walk (within v g) = rw (value-at (byteIn text) 0 (length text) (omega arith) (Values.part v)) (gives-from (byteIn text) bits g)
 
--- and no smaller number
-pub walk-number : {text : List ℕ} {bits : Bits} {ss : List Selector} {why : Refusal} → WalkStops text bits ss why → 23 ≤ refusalNumber why
-walk-number (blank h) = omega arith
-walk-number {text} {bits} (within h l) = from-number (byteIn text) bits l
+  -- 23 to 27 of a walk, and its part
+  pub walk-gives : (r : Answer) → (walk text bits ss ≡ r) ↔ WalkGives text bits ss r
+  walk-gives r = (λ q. subst (WalkGives text bits ss) q walk-is, gives-walk)
+
+  -- no smaller number
+  pub walk-number : {why : Refusal} → WalkGives text bits ss (Refused why) → 23 ≤ refusalNumber why
+  walk-number (blank o) = omega arith
+  walk-number (within v g) = from-number (byteIn text) bits g

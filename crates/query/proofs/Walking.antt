@@ -8,7 +8,7 @@ use native.Mathlib.Decide.{decLt}
 use lib.Count.{trailingZeros}
 use borrow.Author.Tests.{lt-ltb, le-ltb}
 use Rattle.paths.specs.Places.{firstAt}
-use Rattle.query.specs.Items.{orElse, itemsIn, items}
+use Rattle.query.specs.Items.{orElse, firstItemIn, firstItem}
 use Rattle.query.specs.declared.items.Item.{Item}
 use Rattle.query.specs.declared.items.Item.the-variants.{Found, Other, Broken}
 use Rattle.paths.proofs.PlaceLaws.{first-at, first-all}
@@ -27,16 +27,16 @@ after-last Other = refl
 after-last (Broken w) = refl
 
 module _ (item : ℕ → ℕ → Item) (comma : ℕ → Bool) (e : ℕ) where
-  pub items-next : (f a c : ℕ) → firstAt comma a e ≡ c → c < e → item a c ≡ Other → itemsIn item comma (suc f) a e ≡ itemsIn item comma f (c + 1) e
-  unfolding itemsIn
+  pub items-next : (f a c : ℕ) → firstAt comma a e ≡ c → c < e → item a c ≡ Other → firstItemIn item comma (suc f) a e ≡ firstItemIn item comma f (c + 1) e
+  unfolding firstItemIn
   items-next f a c h l o = rw (h, o, lt-ltb c e l)
 
-  pub items-stop : (f a c : ℕ) → firstAt comma a e ≡ c → (item a c ≡ Other → ⊥) → itemsIn item comma (suc f) a e ≡ item a c
-  unfolding itemsIn
+  pub items-stop : (f a c : ℕ) → firstAt comma a e ≡ c → (item a c ≡ Other → ⊥) → firstItemIn item comma (suc f) a e ≡ item a c
+  unfolding firstItemIn
   items-stop f a c h o = rw h (after-keeps (item a c) _ o)
 
-  pub items-last : (f a : ℕ) → firstAt comma a e ≡ e → itemsIn item comma (suc f) a e ≡ item a e
-  unfolding itemsIn
+  pub items-last : (f a : ℕ) → firstAt comma a e ≡ e → firstItemIn item comma (suc f) a e ≡ item a e
+  unfolding firstItemIn
   items-last f a h = rw (h, le-ltb e e (omega arith)) (after-last (item a e))
 
 -- ---- where the walk stands: the item that begins at `start` has no comma before `at`, and x has the word's bits from `at` on
@@ -48,7 +48,7 @@ pub record Walking (item : ℕ → ℕ → Item) (t : ℕ → Bool) (lo hi start
   pub none : (k : ℕ) → start ≤ k → k < at → t k ≡ false
   pub fuel : ℕ
   pub enough : hi - start < fuel
-  pub same : items item t lo hi ≡ itemsIn item t fuel start hi
+  pub same : firstItem item t lo hi ≡ firstItemIn item t fuel start hi
 
 both : (t : ℕ → Bool) (a b c : ℕ) → ((k : ℕ) → a ≤ k → k < b → t k ≡ false) → ((k : ℕ) → b ≤ k → k < c → t k ≡ false)
     → (k : ℕ) → a ≤ k → k < c → t k ≡ false
@@ -56,7 +56,7 @@ both t a b c p q k h l = elim (decLt k b) [ yes y ↦ p k h y | no n ↦ q k (om
 
 module _ (item : ℕ → ℕ → Item) (t : ℕ → Bool) (lo hi : ℕ) where
   pub walking-from : (w x : ℕ) → lo < hi → Standing t w lo x → Walking item t lo hi lo lo w x
-  unfolding items
+  unfolding firstItem
   walking-from w x l s =
       record {
         standing = s;
@@ -84,26 +84,26 @@ module _ (item : ℕ → ℕ → Item) (t : ℕ → Bool) (lo hi : ℕ) where
     comma-none z l =
         first-all t start hi (omega (arith, g .order, g .within)) (both t start at hi (g .none) (λ k a b. standing-zero t w at x (g .standing) z k a (omega arith)))
 
-    last-one : firstAt t start hi ≡ hi → items item t lo hi ≡ item start hi
+    last-one : firstAt t start hi ≡ hi → firstItem item t lo hi ≡ item start hi
     last-one h = go (g .fuel) (g .enough) (g .same)
       where
-        go : (f : ℕ) → hi - start < f → items item t lo hi ≡ itemsIn item t f start hi → items item t lo hi ≡ item start hi
+        go : (f : ℕ) → hi - start < f → firstItem item t lo hi ≡ firstItemIn item t f start hi → firstItem item t lo hi ≡ item start hi
         go zero n e = absurd (omega arith)
         go (suc f) n e = e ∙ items-last item t hi f start h
 
     -- the last item, in the word and after the last word
-    pub walking-out : (x ≡ 0 → ⊥) → hi ≤ at + trailingZeros 64 x → items item t lo hi ≡ item start hi
+    pub walking-out : (x ≡ 0 → ⊥) → hi ≤ at + trailingZeros 64 x → firstItem item t lo hi ≡ item start hi
     walking-out ne l = last-one (comma-out ne l)
 
-    pub walking-end : x ≡ 0 → hi ≤ w * 64 + 64 → items item t lo hi ≡ item start hi
+    pub walking-end : x ≡ 0 → hi ≤ w * 64 + 64 → firstItem item t lo hi ≡ item start hi
     walking-end z l = last-one (comma-none z l)
 
     -- an item that is found or broken
     pub walking-stop : (x ≡ 0 → ⊥) → at + trailingZeros 64 x < hi → (item start (at + trailingZeros 64 x) ≡ Other → ⊥)
-        → items item t lo hi ≡ item start (at + trailingZeros 64 x)
+        → firstItem item t lo hi ≡ item start (at + trailingZeros 64 x)
     walking-stop ne l o = go (g .fuel) (g .enough) (g .same)
       where
-        go : (f : ℕ) → hi - start < f → items item t lo hi ≡ itemsIn item t f start hi → items item t lo hi ≡ item start (at + trailingZeros 64 x)
+        go : (f : ℕ) → hi - start < f → firstItem item t lo hi ≡ firstItemIn item t f start hi → firstItem item t lo hi ≡ item start (at + trailingZeros 64 x)
         go zero n e = absurd (omega arith)
         go (suc f) n e = e ∙ items-stop item t hi f start (at + trailingZeros 64 x) (comma-here ne l) o
 
@@ -112,7 +112,7 @@ module _ (item : ℕ → ℕ → Item) (t : ℕ → Bool) (lo hi : ℕ) where
         → Walking item t lo hi (at + trailingZeros 64 x + 1) (at + trailingZeros 64 x + 1) w (x / 2 ^ trailingZeros 64 x / 2)
     walking-next ne l o = go (g .fuel) (g .enough) (g .same)
       where
-        go : (f : ℕ) → hi - start < f → items item t lo hi ≡ itemsIn item t f start hi
+        go : (f : ℕ) → hi - start < f → firstItem item t lo hi ≡ firstItemIn item t f start hi
             → Walking item t lo hi (at + trailingZeros 64 x + 1) (at + trailingZeros 64 x + 1) w (x / 2 ^ trailingZeros 64 x / 2)
         go zero n e = absurd (omega arith)
         go (suc f) n e =

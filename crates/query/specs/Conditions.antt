@@ -2,15 +2,16 @@
 use Prim.Native.Nat.{ℕ, _+_, _-_, _≤_, _<_}
 use mathlib.Core.Path.{_≡_}
 use mathlib.Core.Bool.{true, false}
-use mathlib.Core.List.{List, _∷_}
+use mathlib.Core.List.{List, [], _∷_}
 use mathlib.Core.Logic.{_⊎_}
 use lib.ListN.{length}
+use Rattle.rules.specs.Word.{count}
 use Rattle.rules.specs.Layout.{widthOf, sizeOf}
 use Rattle.paths.specs.Places.{byteIn}
 use Rattle.paths.specs.Grammar.{Selector, name, number, Path, RefusedAt}
 use Rattle.paths.specs.Path.{large}
-use Rattle.query.specs.Items.{Bits, lent, valueAt, itemAt, items, itemNo}
-use Rattle.query.specs.Walk.{framed, filled, stepBy, walk}
+use Rattle.query.specs.Items.{Bits, lent}
+use Rattle.query.specs.Members.{OnlyBlanks, Trimmed, Framed, Numbered, AllOther, FirstIs, Member}
 use Rattle.query.specs.declared.items.Item.the-variants as Items
 use Rattle.query.specs.declared.types.Cause.{Cause}
 use Rattle.query.specs.declared.types.Cause.the-variants.{EmptyValue}
@@ -18,6 +19,39 @@ use Rattle.query.specs.declared.types.Refusal.{Refusal}
 use Rattle.query.specs.declared.types.Refusal.the-variants.{EmptyRecord, LongRecord, BadLevels, BadBuffer, BadPath, TooLarge, TooDeep, NotObject, NotArray, NoName, NoNumber, Broken}
 use Rattle.query.specs.declared.types.Answer.{Answer}
 use Rattle.query.specs.declared.types.Answer.the-variants.{Found, Refused}
+
+-- ---- the walk
+
+-- what step number k gives in the value from a to e. (123 and 125 are `{` and `}`, 91 and 93 `[` and `]`.)
+pub data StepGives (byte : ℕ → ℕ) (bits : Bits) (k : ℕ) : Selector → ℕ → ℕ → Answer → Type 0 where
+  not-object : {n : List ℕ} {a e : ℕ} → (Framed byte 123 125 a e → ⊥) → StepGives byte bits k (name n) a e (Refused NotObject)
+  no-member : {n : List ℕ} {a e : ℕ} → Framed byte 123 125 a e → OnlyBlanks byte (a + 1) (e - 1) → StepGives byte bits k (name n) a e (Refused NoName)
+  no-name : {n : List ℕ} {a e : ℕ} → Framed byte 123 125 a e → (OnlyBlanks byte (a + 1) (e - 1) → ⊥)
+      → AllOther (Member byte bits k n) (bits .comma k) (a + 1) (e - 1) → StepGives byte bits k (name n) a e (Refused NoName)
+  broken-member : {n : List ℕ} {a e : ℕ} {why : Cause} → Framed byte 123 125 a e → (OnlyBlanks byte (a + 1) (e - 1) → ⊥)
+      → FirstIs (Member byte bits k n) (bits .comma k) (a + 1) (e - 1) (Items.Broken why) → StepGives byte bits k (name n) a e (Refused (Broken why))
+  member : {n : List ℕ} {a e p q : ℕ} → Framed byte 123 125 a e → (OnlyBlanks byte (a + 1) (e - 1) → ⊥)
+      → FirstIs (Member byte bits k n) (bits .comma k) (a + 1) (e - 1) (Items.Found p q) → StepGives byte bits k (name n) a e (Found p q)
+  not-array : {m a e : ℕ} → (Framed byte 91 93 a e → ⊥) → StepGives byte bits k (number m) a e (Refused NotArray)
+  no-element : {m a e : ℕ} → Framed byte 91 93 a e → OnlyBlanks byte (a + 1) (e - 1) → StepGives byte bits k (number m) a e (Refused NoNumber)
+  no-number : {m a e : ℕ} → Framed byte 91 93 a e → (OnlyBlanks byte (a + 1) (e - 1) → ⊥)
+      → count (bits .comma k) (e - 1) < count (bits .comma k) (a + 1) + m → StepGives byte bits k (number m) a e (Refused NoNumber)
+  broken-element : {m a e s f : ℕ} → Framed byte 91 93 a e → (OnlyBlanks byte (a + 1) (e - 1) → ⊥)
+      → Numbered (bits .comma k) (a + 1) (e - 1) m s f → OnlyBlanks byte s f → StepGives byte bits k (number m) a e (Refused (Broken EmptyValue))
+  element : {m a e s f p q : ℕ} → Framed byte 91 93 a e → (OnlyBlanks byte (a + 1) (e - 1) → ⊥)
+      → Numbered (bits .comma k) (a + 1) (e - 1) m s f → Trimmed byte s f p q → StepGives byte bits k (number m) a e (Found p q)
+
+-- what the steps that are left give: the first that stops does, else the last one's part
+pub data StepsGive (byte : ℕ → ℕ) (bits : Bits) : ℕ → List Selector → ℕ → ℕ → Answer → Type 0 where
+  done : {k a e : ℕ} → StepsGive byte bits k [] a e (Found a e)
+  here : {k a e : ℕ} {s : Selector} {ss : List Selector} {why : Refusal} → StepGives byte bits k s a e (Refused why) → StepsGive byte bits k (s ∷ ss) a e (Refused why)
+  later : {k a e b f : ℕ} {s : Selector} {ss : List Selector} {r : Answer} → StepGives byte bits k s a e (Found b f) → StepsGive byte bits (k + 1) ss b f r
+      → StepsGive byte bits k (s ∷ ss) a e r
+
+-- what a walk gives: "The value of `$` is the record without blanks at its ends; blank all through is 27"
+pub data WalkGives (text : List ℕ) (bits : Bits) (ss : List Selector) : Answer → Type 0 where
+  blank : OnlyBlanks (byteIn text) 0 (length text) → WalkGives text bits ss (Refused (Broken EmptyValue))
+  within : {a e : ℕ} {r : Answer} → Trimmed (byteIn text) 0 (length text) a e → StepsGive (byteIn text) bits 1 ss a e r → WalkGives text bits ss r
 
 -- ---- the checks, in their order
 
@@ -59,36 +93,8 @@ pub data Given (text words : List ℕ) (levels : ℕ) (path : List ℕ) : Answer
   no-path : {p : ℕ} → Brief text words levels path → RefusedAt path p → Given text words levels path (Refused (BadPath p))
   large-number : {ss : List Selector} → Brief text words levels path → Path path ss → large ss ≡ true → Given text words levels path (Refused TooLarge)
   deep : {ss : List Selector} → Brief text words levels path → Path path ss → large ss ≡ false → levels < length ss → Given text words levels path (Refused TooDeep)
-  walked : {r : Answer} {ss : List Selector} → Walkable text words levels path ss → walk text (lent words levels (widthOf (length text))) ss ≡ r
+  walked : {r : Answer} {ss : List Selector} → Walkable text words levels path ss → WalkGives text (lent words levels (widthOf (length text))) ss r
       → Given text words levels path r
-
--- ---- the walk
-
--- why step number k stops in the value from a to e
-pub data Stops (byte : ℕ → ℕ) (bits : Bits) (k : ℕ) : Selector → ℕ → ℕ → Refusal → Type 0 where
-  not-object : {n : List ℕ} {a e : ℕ} → framed byte 123 125 a e ≡ false → Stops byte bits k (name n) a e NotObject
-  not-array : {m a e : ℕ} → framed byte 91 93 a e ≡ false → Stops byte bits k (number m) a e NotArray
-  no-member : {n : List ℕ} {a e : ℕ} → framed byte 123 125 a e ≡ true → filled byte a e ≡ false → Stops byte bits k (name n) a e NoName
-  no-name : {n : List ℕ} {a e : ℕ} → framed byte 123 125 a e ≡ true → filled byte a e ≡ true
-      → items (itemAt byte bits k n) (bits .comma k) (a + 1) (e - 1) ≡ Items.Other → Stops byte bits k (name n) a e NoName
-  no-element : {m a e : ℕ} → framed byte 91 93 a e ≡ true → filled byte a e ≡ false → Stops byte bits k (number m) a e NoNumber
-  no-number : {m a e : ℕ} → framed byte 91 93 a e ≡ true → filled byte a e ≡ true
-      → itemNo byte (bits .comma k) m (a + 1) (e - 1) ≡ Items.Other → Stops byte bits k (number m) a e NoNumber
-  broken-member : {n : List ℕ} {a e : ℕ} {why : Cause} → framed byte 123 125 a e ≡ true → filled byte a e ≡ true
-      → items (itemAt byte bits k n) (bits .comma k) (a + 1) (e - 1) ≡ Items.Broken why → Stops byte bits k (name n) a e (Broken why)
-  broken-element : {m a e : ℕ} {why : Cause} → framed byte 91 93 a e ≡ true → filled byte a e ≡ true
-      → itemNo byte (bits .comma k) m (a + 1) (e - 1) ≡ Items.Broken why → Stops byte bits k (number m) a e (Broken why)
-
--- why the steps that are left stop: the first that stops does
-pub data StopsFrom (byte : ℕ → ℕ) (bits : Bits) : ℕ → List Selector → ℕ → ℕ → Refusal → Type 0 where
-  here : {k a e : ℕ} {s : Selector} {ss : List Selector} {why : Refusal} → Stops byte bits k s a e why → StopsFrom byte bits k (s ∷ ss) a e why
-  later : {k a e b f : ℕ} {s : Selector} {ss : List Selector} {why : Refusal} → stepBy byte bits k s a e ≡ Found b f → StopsFrom byte bits (k + 1) ss b f why
-      → StopsFrom byte bits k (s ∷ ss) a e why
-
--- why a walk stops
-pub data WalkStops (text : List ℕ) (bits : Bits) (ss : List Selector) : Refusal → Type 0 where
-  blank : valueAt (byteIn text) 0 (length text) ≡ Items.Broken EmptyValue → WalkStops text bits ss (Broken EmptyValue)
-  within : {a e : ℕ} {why : Refusal} → valueAt (byteIn text) 0 (length text) ≡ Items.Found a e → StopsFrom (byteIn text) bits 1 ss a e why → WalkStops text bits ss why
 
 -- ---- of numbers
 
@@ -96,10 +102,4 @@ pub data WalkStops (text : List ℕ) (bits : Bits) (ss : List Selector) : Refusa
 pub record Walks (text words : List ℕ) (levels : ℕ) (path : List ℕ) (r : Answer) : Type 0 where
   pub selectors : List Selector
   pub walkable : Walkable text words levels path selectors
-  pub gives : walk text (lent words levels (widthOf (length text))) selectors ≡ r
-
--- a walk along the path stops so
-pub record Halts (text words : List ℕ) (levels : ℕ) (path : List ℕ) (why : Refusal) : Type 0 where
-  pub selectors : List Selector
-  pub walkable : Walkable text words levels path selectors
-  pub stops : WalkStops text (lent words levels (widthOf (length text))) selectors why
+  pub gives : WalkGives text (lent words levels (widthOf (length text))) selectors r

@@ -82,17 +82,17 @@ orElse Other later = later
 orElse (Broken why) later = Broken why
 
 -- of at most so many items
-unfoldable pub itemsIn : (ℕ → ℕ → Item) → (ℕ → Bool) → ℕ → ℕ → ℕ → Item
-itemsIn item comma zero a e = Other
-itemsIn item comma (suc c) a e =
-    let later = itemsIn item comma c (firstAt comma a e + 1) e in
+unfoldable pub firstItemIn : (ℕ → ℕ → Item) → (ℕ → Bool) → ℕ → ℕ → ℕ → Item
+firstItemIn item comma zero a e = Other
+firstItemIn item comma (suc c) a e =
+    let later = firstItemIn item comma c (firstAt comma a e + 1) e in
     orElse (item a (firstAt comma a e)) (pick (ltb (firstAt comma a e) e) later Other)
 
 -- "takes items from the left", cut at the commas from a to e: "stops at the first broken item or the first" found; else Other.
 -- (There is at most one item more than places.)
-unfoldable pub items : (ℕ → ℕ → Item) → (ℕ → Bool) → ℕ → ℕ → Item
-unfolding itemsIn
-items item comma a e = itemsIn item comma (suc (e - a)) a e
+unfoldable pub firstItem : (ℕ → ℕ → Item) → (ℕ → Bool) → ℕ → ℕ → Item
+unfolding firstItemIn
+firstItem item comma a e = firstItemIn item comma (suc (e - a)) a e
 
 -- ---- items of a number step
 

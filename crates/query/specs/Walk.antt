@@ -7,7 +7,7 @@ use lib.Dec.{ltb, eqb}
 use Rattle.rules.specs.Word.{pick}
 use Rattle.paths.specs.Places.{byteIn}
 use Rattle.paths.specs.Grammar.{Selector, name, number}
-use Rattle.query.specs.Items.{Bits, trimStart, valueAt, itemAt, items, itemNo}
+use Rattle.query.specs.Items.{Bits, trimStart, valueAt, itemAt, firstItem, itemNo}
 use Rattle.query.specs.declared.types.Cause.the-variants.{EmptyValue}
 use Rattle.query.specs.declared.types.Refusal.{Refusal}
 use Rattle.query.specs.declared.types.Refusal.the-variants.{NotObject, NotArray, NoName, NoNumber, Broken}
@@ -41,7 +41,7 @@ unfolding framed filled
 nameStep byte bits k n a e =
     pick (framed byte 123 125 a e)
     (pick (filled byte a e)
-    (ofItem NoName (items (itemAt byte bits k n) (bits .comma k) (a + 1) (e - 1)))
+    (ofItem NoName (firstItem (itemAt byte bits k n) (bits .comma k) (a + 1) (e - 1)))
     (Refused NoName))
     (Refused NotObject)
 

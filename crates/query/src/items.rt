@@ -10,7 +10,7 @@ ghost use lib.ListN.{length};
 ghost use Rattle.rules.specs.Layout.{bitIn, quotes, commas};
 ghost use Rattle.query.specs.Helpers.{Shaped, Readable, Long};
 ghost use Rattle.paths.specs.Places.{byteIn, between};
-ghost use Rattle.query.specs.Items.{lent, valueAt, same, quoted, keyed, itemAt, items, itemNo};
+ghost use Rattle.query.specs.Items.{lent, valueAt, same, quoted, keyed, itemAt, firstItem, itemNo};
 
 // What an item is to a step.
 pub enum Item {
@@ -139,7 +139,7 @@ pub fn find_name(
     requires { ⌜ Shaped (now text) (now words) s ⌝ }
     requires { ⌜ (1 ≤ k) × (k ≤ s .levels) ⌝ }
     requires { ⌜ (lo < hi) × (hi ≤ length (now text)) × (b ≤ f) × (f ≤ length (now path)) ⌝ }
-    ensures { λ r. ⌜ r ≡ items (itemAt (byteIn (now (text .entry))) (lent (now (words .entry)) (s .levels) (s .width)) k (between (byteIn (now (path .entry))) b f)) (bitIn (now (words .entry)) (s .levels) (s .width) (commas k)) lo hi ⌝ }
+    ensures { λ r. ⌜ r ≡ firstItem (itemAt (byteIn (now (text .entry))) (lent (now (words .entry)) (s .levels) (s .width)) k (between (byteIn (now (path .entry))) b f)) (bitIn (now (words .entry)) (s .levels) (s .width) (commas k)) lo hi ⌝ }
 {
     let mut start = lo;
     let mut at = lo;

@@ -10,7 +10,7 @@ use Rattle.rules.specs.Bits.{runBefore, escaped, quoteBit, inString, maskBit, p
 use Rattle.rules.specs.Faults.{Verdict, sound, faulty, closesNone, opensOver, atEnd, faultFrom, faultOf}
 use Rattle.rules.specs.Layout.{Bitmap, quotes, mask, colons, commas, widthOf, sizeOf, row, bitmapOf, address, bitIn, bitOf, listed, index, laid, cell}
 use Rattle.paths.specs.Places.{byteIn, firstIn, firstAt, pastLastIn, pastLast}
-use Rattle.query.specs.Items.{isBlank, valueAt, same, quoted, keyed, itemAt, itemsIn, items, itemNo}
+use Rattle.query.specs.Items.{isBlank, valueAt, same, quoted, keyed, itemAt, firstItemIn, firstItem, itemNo}
 use Rattle.paths.specs.Path.{isDigit, isHead, isTail, decimal, stepAt, readFrom, readPath, large}
 use Rattle.query.specs.Walk.{framed, filled, nameStep, numberStep, walkFrom, walk}
 use Rattle.query.specs.Answers.{numberOf, startOf, endOf, answerOf}
@@ -134,5 +134,5 @@ table =
     []
 
 reports : T (allRight table)
-unfolding allRight table odd count word wordAt bit is has runBefore escaped quoteBit inString maskBit plain opener closer atDepth levelBit closesNone opensOver atEnd faultFrom faultOf widthOf sizeOf row bitmapOf address cell bitIn bitOf listed laid index byteIn firstIn firstAt pastLastIn pastLast isBlank valueAt same quoted keyed itemAt itemsIn items itemNo isDigit isHead isTail decimal stepAt readFrom readPath large framed filled nameStep numberStep walkFrom walk answerOf
+unfolding allRight table odd count word wordAt bit is has runBefore escaped quoteBit inString maskBit plain opener closer atDepth levelBit closesNone opensOver atEnd faultFrom faultOf widthOf sizeOf row bitmapOf address cell bitIn bitOf listed laid index byteIn firstIn firstAt pastLastIn pastLast isBlank valueAt same quoted keyed itemAt firstItemIn firstItem itemNo isDigit isHead isTail decimal stepAt readFrom readPath large framed filled nameStep numberStep walkFrom walk answerOf
 reports = tt
