@@ -1,6 +1,5 @@
 // Closing a job.
 ghost use mathlib.Core.Path.{_≡_};
-ghost use lib.ListN.{length, replicate};
 ghost use Rattle.index.specs.Closing.{allLevelled, closing};
 ghost use Rattle.index.specs.Outcomes.{CloseGives};
 use crate::Answer;
@@ -8,16 +7,7 @@ use crate::Handed;
 use crate::Job;
 use crate::Refusal;
 use crate::State;
-
-fn zero_words(words: &mut [u64])
-    ensures { λ _. ⌜ now (words .exit) ≡ replicate (length (now (words .entry))) 0 ⌝ }
-{
-    let mut i = 0;
-    while i < words.len() {
-        words[i] = 0;
-        i += 1;
-    }
-}
+use layout::zero_words;
 
 impl Job {
     fn all_levelled(self) -> bool

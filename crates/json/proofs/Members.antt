@@ -14,7 +14,8 @@ use Rattle.rules.specs.Bytes.{is, colon, comma}
 use Rattle.rules.specs.Bits.{quoteBit, levelBit}
 use Rattle.paths.specs.Places.{byteIn, between, firstAt}
 use Rattle.rules.specs.Layout.{bitOf}
-use Rattle.query.specs.Items.{ruled, valueAt, same, quoted, keyed, itemAt, orElse, firstItemIn}
+use Rattle.query.specs.Items.{valueAt, same, quoted, keyed, itemAt, orElse, firstItemIn}
+use Rattle.walks.specs.Ruled.{ruled}
 use Rattle.query.specs.declared.items.Item.{Item}
 use Rattle.query.specs.declared.items.Item.the-variants.{Other}
 use Rattle.paths.proofs.PlaceLaws.{first-at, first-all}

@@ -14,7 +14,8 @@ use lib.Seq.{ext-getD, getD-take, getD-drop}
 use Rattle.rules.specs.Layout.{sizeOf, Promise}
 use Rattle.paths.specs.Grammar.{Selector, Letter, Rest, Name, Steps, Path}
 use Rattle.paths.specs.Places.{byteIn}
-use Rattle.query.specs.Items.{ruled, valueAt}
+use Rattle.query.specs.Items.{valueAt}
+use Rattle.walks.specs.Ruled.{ruled}
 use Rattle.paths.specs.Path.{Reading, good, bad, readPath, large}
 use Rattle.query.specs.Walk.{onFound, walkFrom, walk}
 use Rattle.query.specs.Answers.{numberOf, partOf, afterReading, answerOf}
@@ -34,7 +35,7 @@ use Rattle.json.proofs.Trace.{at-start, Seg}
 use Rattle.json.proofs.Stretches.{seg-at, seg-self}
 use Rattle.json.proofs.Values.{value-ends, Good, Hit, pad-hit}
 use Rattle.json.proofs.Steps.{StepTaken, step-right}
-use Rattle.query.proofs.Agree.{walk-promised}
+use Rattle.walks.proofs.Agree.{walk-promised}
 use Rattle.json.proofs.Names.{Ascii, PlainName, rawChildren, children-same, AllFair, children-fair}
 use Rattle.json.proofs.Verdicts.{text-sound}
 

@@ -13,7 +13,8 @@ use lib.ListN.{length, getD, length-append}
 use Rattle.rules.specs.Layout.{bitOf}
 use Rattle.paths.specs.Grammar.{In, Selector, name, number}
 use Rattle.paths.specs.Places.{byteIn}
-use Rattle.query.specs.Items.{ruled, solid, trimStart, itemAt, firstItem, itemNo}
+use Rattle.query.specs.Items.{solid, trimStart, itemAt, firstItem, itemNo}
+use Rattle.walks.specs.Ruled.{ruled}
 use Rattle.query.specs.Walk.{ofItem, framed, filled, nameStep, numberStep, stepBy}
 use Rattle.query.specs.Answers.{refusalNumber}
 use Rattle.query.specs.declared.items.Item.{Item}

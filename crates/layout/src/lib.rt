@@ -1,7 +1,7 @@
-// The layout of the lent words, as code: how many there are, and where a word of a bitmap lies. No other crate computes an address.
+// The layout of the lent words, as code: how many there are, where a word of a bitmap lies, and all of them zero. No other crate computes an address.
 ghost use mathlib.Core.Path.{_≡_};
 ghost use Prim.Native.Nat.{_+_, _*_, _≤_};
-ghost use lib.ListN.{length, set};
+ghost use lib.ListN.{length, set, replicate};
 ghost use Rattle.rules.specs.Layout.{widthOf, sizeOf, address, cell};
 ghost use Rattle.layout.specs.Maps.{mapped, InMap};
 
@@ -55,4 +55,14 @@ pub fn put_word(words: &mut [u64], levels: usize, width: usize, m: Map, w: usize
 {
     let at = address_of(levels, width, m, w);
     words[at] = v;
+}
+
+pub fn zero_words(words: &mut [u64])
+    ensures { λ _. ⌜ now (words .exit) ≡ replicate (length (now (words .entry))) 0 ⌝ }
+{
+    let mut i = 0;
+    while i < words.len() {
+        words[i] = 0;
+        i += 1;
+    }
 }

@@ -4,7 +4,7 @@ use mathlib.Core.Bool.{Bool, true, false, not, _&&_, _||_}
 use mathlib.Core.List.{List, [], _∷_}
 use lib.Dec.{ltb, eqb}
 use Rattle.rules.specs.Word.{pick}
-use Rattle.rules.specs.Layout.{quotes, colons, commas, bitIn, bitOf}
+use Rattle.rules.specs.Layout.{quotes, colons, commas, bitIn}
 use Rattle.paths.specs.Places.{between, firstAt, pastLast}
 use Rattle.query.specs.declared.types.Cause.the-variants.{NoColon, BadName, EmptyValue}
 use Rattle.query.specs.declared.items.Item.{Item}
@@ -20,10 +20,6 @@ pub record Bits : Type 0 where
 abbrev pub lent : List ℕ → ℕ → ℕ → Bits
 lent words levels width =
     record { quote = bitIn words levels width quotes; colon = λ k. bitIn words levels width (colons k); comma = λ k. bitIn words levels width (commas k) }
-
--- the bits that the rules set
-abbrev pub ruled : List ℕ → Bits
-ruled text = record { quote = bitOf text quotes; colon = λ k. bitOf text (colons k); comma = λ k. bitOf text (commas k) }
 
 -- ---- blanks and values
 

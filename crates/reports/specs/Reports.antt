@@ -17,19 +17,19 @@ use Rattle.query.specs.Answers.{numberOf, startOf, endOf, answerOf}
 use Rattle.query.specs.declared.types.Answer.{Answer}
 
 -- word w of a bitmap has this value
-record Value : Type 0 where
+pub record Value : Type 0 where
   of : Bitmap
   at : ℕ
   value : ℕ
 
 -- a path is answered with this number, and this part
-record PathRow : Type 0 where
+pub record PathRow : Type 0 where
   path : List ℕ
   number : ℕ
   start : ℕ
   end : ℕ
 
-record Report : Type 0 where
+pub record Report : Type 0 where
   text : List ℕ
   levels : ℕ
   verdict : Verdict
@@ -61,12 +61,12 @@ right r =
     agrees (faultOf (r .text)) (r .verdict)
     && (holds (index (r .text) (r .levels)) (r .levels) (widthOf (length (r .text))) (r .words) && answers (r .text) (r .levels) (r .paths))
 
-allRight : List Report → Bool
+pub allRight : List Report → Bool
 unfolding right
 allRight [] = true
 allRight (r ∷ rs) = right r && allRight rs
 
-table : List Report
+pub table : List Report
 table =
     -- 1: {"a":":,"}
     (record {
@@ -133,6 +133,6 @@ table =
     (record { text = 123 ∷ 93 ∷ []; levels = 1; verdict = sound; words = []; paths = [] }) ∷
     []
 
-reports : T (allRight table)
+pub reports : T (allRight table)
 unfolding allRight table odd count word wordAt bit is has runBefore escaped quoteBit inString maskBit plain opener closer atDepth levelBit closesNone opensOver atEnd faultFrom faultOf widthOf sizeOf row bitmapOf address cell bitIn bitOf listed laid index byteIn firstIn firstAt pastLastIn pastLast isBlank valueAt same quoted keyed itemAt firstItemIn firstItem itemNo isDigit isHead isTail decimal stepAt readFrom readPath large framed filled nameStep numberStep walkFrom walk answerOf
 reports = tt

@@ -10,15 +10,15 @@ use Rattle.rules.specs.Layout.{widthOf, sizeOf}
 use Rattle.paths.specs.Places.{byteIn}
 use Rattle.paths.specs.Grammar.{Selector, name, number, Path, RefusedAt}
 use Rattle.paths.specs.Path.{large}
 use Rattle.query.specs.Items.{Bits, lent}
-use Rattle.query.specs.Members.{OnlyBlanks, Trimmed, Framed, Numbered, AllOther, FirstIs, Member}
+use Rattle.walks.specs.Members.{OnlyBlanks, Trimmed, Framed, Numbered, AllOther, FirstIs, Member}
 use Rattle.query.specs.declared.items.Item.the-variants as Items
 use Rattle.query.specs.declared.types.Cause.{Cause}
 use Rattle.query.specs.declared.types.Cause.the-variants.{EmptyValue}
 use Rattle.query.specs.declared.types.Refusal.{Refusal}
 use Rattle.query.specs.declared.types.Refusal.the-variants.{EmptyRecord, LongRecord, BadLevels, BadBuffer, BadPath, TooLarge, TooDeep, NotObject, NotArray, NoName, NoNumber, Broken}
 use Rattle.query.specs.declared.types.Answer.{Answer}
 use Rattle.query.specs.declared.types.Answer.the-variants.{Found, Refused}
 
 -- ---- the walk
 

@@ -1,4 +1,4 @@
--- What a step finds between the ends of a value, said of places: section 'Paths' as relations, in its order. (proofs/Stops.antt: the walk's answers are these.)
+-- What a step finds between the ends of a value, said of places: section 'Paths' as relations, in its order. (proofs/Giving.antt: the walk's answers are these.)
 use Prim.Native.Nat.{ℕ, _+_, _-_, _≤_, _<_}
 use mathlib.Core.Path.{_≡_}
 use mathlib.Core.Bool.{Bool, true, false}

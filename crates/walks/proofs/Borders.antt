@@ -10,14 +10,14 @@ use native.Mathlib.Nat.{eq-or-lt-of-le}
 use native.Mathlib.Decide.{decLt}
 use Rattle.rules.proofs.Booleans.{impossible}
 use Rattle.paths.specs.Places.{firstAt}
 use Rattle.query.specs.Items.{Bits, itemAt, firstItemIn, firstItem}
-use Rattle.query.specs.Members.{Borders, AllOther, FirstIs, Member}
+use Rattle.walks.specs.Members.{Borders, AllOther, FirstIs, Member}
 use Rattle.query.specs.declared.types.Cause.{Cause}
 use Rattle.query.specs.declared.items.Item.{Item}
 use Rattle.query.specs.declared.items.Item.the-variants.{Found, Other, Broken}
 use Rattle.paths.proofs.PlaceLaws.{first-ge, first-le, first-hit, first-miss, first-at, first-all}
 use Rattle.query.proofs.Walking.{items-next, items-stop, items-last}
-use Rattle.query.proofs.Members.{item-exactly}
+use Rattle.walks.proofs.Members.{item-exactly}
 
 -- ---- the items from a to e
 

@@ -14,18 +14,19 @@ use Rattle.rules.proofs.LayoutLaws.{promised-bit}
 use Rattle.paths.specs.Places.{byteIn, firstIn, firstAt}
 use Rattle.paths.specs.Grammar.{Selector, name, number, Path}
 use Rattle.paths.specs.Path.{Reading, good, bad, readPath, large}
-use Rattle.query.specs.Items.{Bits, lent, ruled, solid, trimStart, trimEnd, valueAt, same, quoted, keyed, itemAt, orElse, firstItemIn, firstItem, itemNo}
+use Rattle.query.specs.Items.{Bits, lent, solid, trimStart, trimEnd, valueAt, same, quoted, keyed, itemAt, orElse, firstItemIn, firstItem, itemNo}
+use Rattle.walks.specs.Ruled.{ruled}
 use Rattle.query.specs.Walk.{onFound, ofItem, framed, filled, nameStep, numberStep, stepBy, walkFrom, walk}
 use Rattle.query.specs.Answers.{afterReading, answerOf}
 use Rattle.query.specs.declared.items.Item.{Item}
 use Rattle.query.specs.declared.items.Item.the-variants as Items
 use Rattle.query.specs.declared.types.Cause.the-variants.{EmptyValue}
 use Rattle.query.specs.declared.types.Refusal.the-variants.{EmptyRecord, LongRecord, BadLevels, BadBuffer, TooLarge, TooDeep, NotObject, NotArray, NoName, NoNumber, Broken}
 use Rattle.query.specs.declared.types.Answer.{Answer}
 use Rattle.query.specs.declared.types.Answer.the-variants.{Found, Refused}
 use Rattle.paths.proofs.PlaceLaws.{first-ge, first-le, last-bounds}
 use Rattle.query.proofs.ItemLaws.{framed-long}
 use Rattle.query.proofs.Inside.{InRecord, value-in, of-in, step-in}
 use Rattle.paths.proofs.Reading.{read-is-path}
 
 -- the same bits at places below n, and at levels up to l

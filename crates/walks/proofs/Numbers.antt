@@ -14,17 +14,17 @@ use Rattle.rules.specs.Layout.{widthOf, sizeOf}
 use Rattle.rules.proofs.Booleans.{impossible}
 use Rattle.paths.specs.Grammar.{Selector, Path, RefusedAt}
 use Rattle.paths.specs.Path.{Reading, good, bad, readPath, large}
 use Rattle.query.specs.Items.{lent}
 use Rattle.query.specs.Answers.{refusalNumber, numberOf, placeOf, afterReading, answerOf}
-use Rattle.query.specs.Conditions.{Sized, Levelled, Lendable, Brief, Walkable, Given, empty, long, levels-out, other-buffer, long-path, no-path, large-number, deep, walked, Walks, WalkGives}
+use Rattle.walks.specs.Conditions.{Sized, Levelled, Lendable, Brief, Walkable, Given, empty, long, levels-out, other-buffer, long-path, no-path, large-number, deep, walked, Walks, WalkGives}
 use Rattle.query.specs.declared.types.Cause.{Cause}
 use Rattle.query.specs.declared.types.Refusal.{Refusal}
 use Rattle.query.specs.declared.types.Refusal.the-variants.{EmptyRecord, LongRecord, BadLevels, BadBuffer, BadPath, TooLarge, TooDeep, NotObject, NotArray, NoName, NoNumber, Broken}
 use Rattle.query.specs.declared.types.Answer.{Answer}
 use Rattle.query.specs.declared.types.Answer.the-variants.{Found, Refused}
 use Rattle.paths.proofs.PlaceLaws.{pick-ind}
 use Rattle.paths.proofs.Reading.{reads, read-is-path, refused-is-place, place-is-refused}
-use Rattle.query.proofs.Stops.{walk-gives, walk-number}
+use Rattle.walks.proofs.Giving.{walk-gives, walk-number}
 
 module _ (text words : List ℕ) (levels : ℕ) (path : List ℕ) where
   -- ---- what is answered is given

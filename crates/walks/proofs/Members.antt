@@ -10,15 +10,15 @@ use lib.Dec.{ltb, eqb}
 use borrow.Author.Tests.{ltb-true, ltb-false, lt-ltb, le-ltb, eqb-true, eq-eqb}
 use Rattle.rules.specs.Word.{pick}
 use Rattle.paths.specs.Places.{between, firstAt, pastLast}
 use Rattle.query.specs.Items.{Bits, solid, trimStart, trimEnd, valueAt, same, quoted, keyed, itemAt}
 use Rattle.query.specs.Walk.{framed, filled}
-use Rattle.query.specs.Members.{FirstPlace, OnlyBlanks, Trimmed, Framed, Quoted, Whole, Member, no-colon, bad-name, other, empty, found}
+use Rattle.walks.specs.Members.{FirstPlace, OnlyBlanks, Trimmed, Framed, Quoted, Whole, Member, no-colon, bad-name, other, empty, found}
 use Rattle.query.specs.declared.types.Cause.the-variants.{EmptyValue}
 use Rattle.query.specs.declared.items.Item.{Item}
 use Rattle.query.specs.declared.items.Item.the-variants.{Found, Other, Broken}
 use Rattle.paths.proofs.PlaceLaws.{pick-ind, first-ge, first-le, first-hit, first-miss, first-at, first-all, last-none, last-bounds, last-hit, last-miss, last-at}
 use Rattle.paths.proofs.PathLaws.{both-true}
 use Rattle.query.proofs.Comparing.{same-exactly}
 
 -- ---- a value
 

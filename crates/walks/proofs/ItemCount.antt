@@ -12,16 +12,16 @@ use borrow.Author.Tests.{ltb-true, ltb-false}
 use Rattle.rules.specs.Word.{digit, count}
 use Rattle.rules.proofs.Counting.{count-cat}
 use Rattle.paths.specs.Places.{firstAt}
 use Rattle.query.specs.Items.{valueAt, itemNo}
-use Rattle.query.specs.Members.{OnlyBlanks, Numbered}
+use Rattle.walks.specs.Members.{OnlyBlanks, Numbered}
 use Rattle.query.specs.declared.items.Item.{Item}
 use Rattle.query.specs.declared.items.Item.the-variants.{Other, Broken}
 use Rattle.query.specs.declared.types.Cause.{Cause}
 use Rattle.query.specs.declared.types.Cause.the-variants.{EmptyValue}
 use Rattle.paths.proofs.PlaceLaws.{pick-ind, first-ge, first-hit, first-miss}
 use Rattle.query.proofs.Standing.{count-none}
-use Rattle.query.proofs.Members.{Value, blank, value-is, value-at}
-use Rattle.query.proofs.Borders.{cut-from, cut-to, cut-end, cut-first, cut-next}
+use Rattle.walks.proofs.Members.{Value, blank, value-is, value-at}
+use Rattle.walks.proofs.Borders.{cut-from, cut-to, cut-end, cut-first, cut-next}
 
 -- ---- how many places
 

@@ -9,23 +9,23 @@ use native.Mathlib.Omega.{arith}
 use lib.ListN.{length}
 use Rattle.paths.specs.Places.{byteIn}
 use Rattle.paths.specs.Grammar.{Selector, name, number}
 use Rattle.query.specs.Items.{Bits, itemAt, firstItem}
 use Rattle.query.specs.Walk.{onFound, ofItem, framed, filled, nameStep, numberStep, stepBy, walkFrom, walk}
-use Rattle.query.specs.Members.{OnlyBlanks, Framed}
+use Rattle.walks.specs.Members.{OnlyBlanks, Framed}
 use Rattle.query.specs.Answers.{refusalNumber}
-use Rattle.query.specs.Conditions.{StepGives, not-object, no-member, no-name, broken-member, member, not-array, no-element, no-number, broken-element, element, StepsGive, done, here, later, WalkGives, blank, within}
+use Rattle.walks.specs.Conditions.{StepGives, not-object, no-member, no-name, broken-member, member, not-array, no-element, no-number, broken-element, element, StepsGive, done, here, later, WalkGives, blank, within}
 use Rattle.query.specs.declared.items.Item.{Item}
 use Rattle.query.specs.declared.items.Item.the-variants as Items
 use Rattle.query.specs.declared.types.Cause.the-variants.{EmptyValue}
 use Rattle.query.specs.declared.types.Refusal.{Refusal}
 use Rattle.query.specs.declared.types.Refusal.the-variants.{NoName, NoNumber, Broken}
 use Rattle.query.specs.declared.types.Answer.{Answer}
 use Rattle.query.specs.declared.types.Answer.the-variants.{Found, Refused}
 use Rattle.paths.proofs.PlaceLaws.{pick-ind}
-use Rattle.query.proofs.Members as Values
-use Rattle.query.proofs.Members.{Value, value-is, value-at, framed-exactly, filled-exactly}
-use Rattle.query.proofs.Borders.{found-stops, broken-stops, no-such-name, first-stops}
-use Rattle.query.proofs.ItemCount.{ByNumber, few, one, number-exactly}
+use Rattle.walks.proofs.Members as Values
+use Rattle.walks.proofs.Members.{Value, value-is, value-at, framed-exactly, filled-exactly}
+use Rattle.walks.proofs.Borders.{found-stops, broken-stops, no-such-name, first-stops}
+use Rattle.walks.proofs.ItemCount.{ByNumber, few, one, number-exactly}
 
 module _ (byte : ℕ → ℕ) (bits : Bits) where
   -- ---- a step

@@ -7,8 +7,8 @@ use lib.Seq.{drop-length}
 use Prim.Native.Nat.{_-_, _≤_}
 use native.Mathlib.Omega.{arith}
 use lib.ListN.{length, drop, replicate, length-set}
-use Rattle.index.proofs.closing.zero_words.Statement.{statement}
-use Rattle.index.proofs.closing.zero_words.Tie as tie
+use Rattle.layout.proofs.zero_words.Statement.{statement}
+use Rattle.layout.proofs.zero_words.Tie as tie
 
 abbrev Inv-loop : tie.InvT-loop
 Inv-loop words₀ i₀ words i = (i ≤ length words₀) × (words ≡ replicate i 0 ++ drop i words₀) × (length words ≡ length words₀)

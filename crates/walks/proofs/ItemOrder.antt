@@ -8,13 +8,14 @@ use Rattle.rules.specs.Bits.{runBefore, escaped, quoteBit, inString, maskBit, p
 use Rattle.rules.specs.Layout.{bitOf, listed}
 use Rattle.paths.specs.Places.{byteIn, firstAt, pastLast}
 use Rattle.paths.specs.Grammar.{name}
-use Rattle.query.specs.Items.{ruled, isBlank, itemAt, firstItem}
+use Rattle.query.specs.Items.{isBlank, itemAt, firstItem}
+use Rattle.walks.specs.Ruled.{ruled}
 use Rattle.query.specs.Walk.{nameStep}
-use Rattle.query.specs.Conditions.{StepGives}
+use Rattle.walks.specs.Conditions.{StepGives}
 use Rattle.query.specs.declared.types.Cause.the-variants.{NoColon}
 use Rattle.query.specs.declared.types.Refusal.the-variants.{Broken}
 use Rattle.query.specs.declared.types.Answer.the-variants.{Found, Refused}
-use Rattle.query.proofs.Stops.{step-gives}
+use Rattle.walks.proofs.Giving.{step-gives}
 
 -- {"a":1,b,"c":2}
 pub threeItems : List ℕ

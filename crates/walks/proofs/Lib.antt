@@ -1,0 +1,8 @@
+-- From one item to a whole query.
+pub mod Members
+pub mod Borders
+pub mod ItemCount
+pub mod Giving
+pub mod ItemOrder
+pub mod Numbers
+pub mod Agree
