@@ -14,20 +14,19 @@ use Rattle.rules.proofs.Booleans.{impossible}
 use Rattle.index.specs.declared.Answer.the-variants.{Done, Faulty}
 use Rattle.index.specs.declared.Fault.{Fault}
 use Rattle.index.specs.declared.Job.{Job}
-use Rattle.index.specs.Types.{Chunk, Open, Stopped, Closed, Step, Scan, Settle, Level, Found, Here}
-use Rattle.index.specs.Checks.{chunksOf, chunkAt, withChunk, spanOf, settledBefore, taken, ready, sameLengths, refusal}
+use Rattle.index.specs.Types.{Chunk, Open, Stopped, Closed, Step, Scan, Settle, Level, Found}
+use Rattle.index.specs.Checks.{chunksOf, chunkAt, withChunk, settledBefore, taken, ready, sameLengths, refusal}
 use Rattle.index.specs.Scanning.{scanChunk, scanned}
-use Rattle.index.specs.Settling.{settleChunk, settleWords, announced, soughtFault, foundBy, foundJob, settled}
+use Rattle.index.specs.Settling.{settleChunk, settleWords, foundJob, settled}
 use Rattle.index.specs.Levelling.{levelChunk, levelled}
 use Rattle.index.specs.Closing.{every, allLevelled, closed}
 use Rattle.index.proofs.CheckLaws.{accepted, if-done}
 use Rattle.index.proofs.Cases.{found-case, state-case}
 use Rattle.index.proofs.CloseLaws.{stopped-fault, closing-done}
-use Rattle.runs.specs.Runs.{Call, scan, settle, level, close, Held, answer, act, run, start, Reached, Ends, verdictOf, lacks, total, stepsLeft, Next, scan-next, settle-next, level-next, nextStep, Left}
+use Rattle.runs.specs.Runs.{Call, scan, settle, level, close, Held, answer, act, run, start, Reached, Ends, lacks, total, stepsLeft, Next, scan-next, settle-next, level-next, nextStep, Left}
 use Rattle.runs.proofs.Spans.{Shape, count-is, chunk-new, chunk-old}
 use Rattle.runs.proofs.Good.{Good}
-use Rattle.index.proofs.NumberLaws.{settle-fault, close-done}
-use Rattle.runs.proofs.Calls.{announced-found}
+use Rattle.index.proofs.NumberLaws.{close-done}
 use Rattle.runs.proofs.Reach.{Fine, scan-fine, settle-fine, level-fine}
 use Rattle.runs.proofs.Theorems.{good, every-one, stopped-named, lengths-exactly, sound-faulty}
 
@@ -280,26 +279,3 @@ by-fuel {text} {levels} (suc fuel) h r l b =
 -- whatever was called so far, unless the job is closed, further calls bring it to a close
 pub can-close : {text : List ℕ} {levels : ℕ} {h : Held} → Reached text levels h → (h .job .state ≡ Closed → ⊥) → (cs : List Call) × Ends (answer text close (run text cs h))
 can-close {text} {levels} {h} r l = by-fuel (suc (stepsLeft (h .job))) h r l (omega arith)
-
--- ---- what settle finds
-
--- a fault that settle answers is the record's
-pub settle-named : {text : List ℕ} {levels : ℕ} {h : Held} → Reached text levels h → (k : ℕ) (f : Fault) → answer text (settle k) h ≡ Faulty f → faultOf text ≡ verdictOf f
-unfolding answer act settled
-settle-named {text} {levels} {h} r k f e =
-    let found = settle-fault (h .job) text (h .words) k f .0 e in
-    stopped-named (reach-more (settle k) r) f (rw (found .0, found .1) refl)
-
--- over a sound record an accepted settle finds nothing
-pub settle-done : {text : List ℕ} {levels : ℕ} {h : Held} → faultOf text ≡ sound → Reached text levels h → (k : ℕ) → refusal Settle (h .job) (length text) (length (h .words)) k ≡ Done → answer text (settle k) h ≡ Done
-unfolding answer settled
-settle-done {text} {levels} {h} s r k e =
-    found-case (λ x. foundBy (h .job) text (settleWords (h .job) text (h .words) k) k ≡ x → answer text (settle k) h ≡ Done) (λ q. rw (e, q) refl)
-    (λ f q. sound-faulty f (sym s ∙ settle-named r k f (rw (e, q) refl))) (foundBy (h .job) text (settleWords (h .job) text (h .words) k) k) refl
-
--- the kept counts announce a fault in the chunk exactly when its place is found
-pub announced-exactly : {text : List ℕ} {levels : ℕ} {h : Held} → Reached text levels h → (k : ℕ) → refusal Settle (h .job) (length text) (length (h .words)) k ≡ Done
-    → let after = settleWords (h .job) text (h .words) k in
-    let c = settleChunk (h .job) text after k in
-    (announced c ≡ true) ↔ ((f : Fault) × (soughtFault c text after levels (spanOf (h .job) (length text) k) ≡ Here f))
-announced-exactly {text} {levels} {h} r k e = announced-found (g r (accepted Settle (h .job) (length text) (length (h .words)) k e .opened)) k e

@@ -31,9 +31,34 @@ use Rattle.runs.proofs.Truth.{Truth}
 use Rattle.runs.proofs.Spans.{Shape, count-is, from-cut, not-last, next-to, chunk-new, span-same}
 use Rattle.runs.proofs.Steps.{clash}
 use Rattle.runs.proofs.Good.{Good}
+use Rattle.runs.proofs.Calls.{announced-found}
 use Rattle.runs.proofs.Reach.{Fine, settle-fine}
-use Rattle.runs.proofs.Theorems.{good, border-truth, mask-right, sound-faulty, same-fault}
-use Rattle.runs.proofs.Progress.{reach-more, settle-live, settle-named}
+use Rattle.runs.proofs.Theorems.{good, stopped-named, border-truth, mask-right, sound-faulty, same-fault}
+use Rattle.runs.proofs.Progress.{reach-more, settle-live}
+
+-- ---- a fault that settle answers is the record's
+
+pub settle-named : {text : List ℕ} {levels : ℕ} {h : Held} → Reached text levels h → (k : ℕ) (f : Fault) → answer text (settle k) h ≡ Faulty f → faultOf text ≡ verdictOf f
+unfolding answer act settled
+settle-named {text} {levels} {h} r k f e =
+    let found = settle-fault (h .job) text (h .words) k f .0 e in
+    stopped-named (reach-more (settle k) r) f (rw (found .0, found .1) refl)
+
+-- over a sound record an accepted settle finds nothing
+pub settle-done : {text : List ℕ} {levels : ℕ} {h : Held} → faultOf text ≡ sound → Reached text levels h → (k : ℕ) → refusal Settle (h .job) (length text) (length (h .words)) k ≡ Done → answer text (settle k) h ≡ Done
+unfolding answer settled
+settle-done {text} {levels} {h} s r k e =
+    found-case (λ x. foundBy (h .job) text (settleWords (h .job) text (h .words) k) k ≡ x → answer text (settle k) h ≡ Done) (λ q. rw (e, q) refl)
+    (λ f q. sound-faulty f (sym s ∙ settle-named r k f (rw (e, q) refl))) (foundBy (h .job) text (settleWords (h .job) text (h .words) k) k) refl
+
+-- the kept counts announce a fault in the chunk exactly when its place is found
+pub announced-exactly : {text : List ℕ} {levels : ℕ} {h : Held} → Reached text levels h → (k : ℕ) → refusal Settle (h .job) (length text) (length (h .words)) k ≡ Done
+    → let after = settleWords (h .job) text (h .words) k in
+    let c = settleChunk (h .job) text after k in
+    (announced c ≡ true) ↔ ((f : Fault) × (soughtFault c text after levels (spanOf (h .job) (length text) k) ≡ Here f))
+announced-exactly {text} {levels} {h} r k e =
+    let o = accepted Settle (h .job) (length text) (length (h .words)) k e .opened in
+    announced-found (good r (λ c. impossible (cc))) k e
 
 -- ---- what settle finds lies in the chunk
 
