@@ -25,7 +25,7 @@ use Rattle.query.specs.declared.types.Answer.the-variants.{Found, Refused}
 use Rattle.query.specs.declared.types.Refusal.the-variants.{EmptyRecord, LongRecord, BadLevels, BadBuffer, TooLarge, TooDeep}
 use Rattle.paths.proofs.PlaceLaws.{pick-ind}
 use Rattle.paths.proofs.Reading.{reads}
-use Rattle.query.proofs.Inside.{Within, WithinItem, value-in, step-in}
+use Rattle.query.proofs.Inside.{InRecord, ItemInRecord, value-in, step-in}
 use Rattle.texts.specs.Grammar.{Text}
 use Rattle.texts.specs.Nodes.{Json, valueOf, firstOf, bytesOf, deep}
 use Rattle.json.specs.Select.{children, flat, segments, select, Fair}
@@ -108,14 +108,14 @@ module _ (text : List ℕ) (kids : Selector → Json → List Json) (P : Json �
       go (rw (agree s a v (q .0) p) at (step-right text k s a v g)) (keeps s (bareTree a v) p) (step-in (byteIn text) (ruled text) (length text) (suc k) s a _ l)
       (λ a v p g l. walked ss (suc k) a v (q .1) p g l)
     where
-      go : {x : Answer} → StepTaken text (suc k) (kids s (bareTree a v)) x → All P (kids s (bareTree a v)) → Within (length text) x
+      go : {x : Answer} → StepTaken text (suc k) (kids s (bareTree a v)) x → All P (kids s (bareTree a v)) → InRecord (length text) x
           → ((a : ℕ) (v : Bare) → P (bareTree a v) → Good text (suc k) a v → a + length (bareBytes v) ≤ length text
           → Selects text (along kids ss (bareTree a v ∷ [])) (walkFrom (byteIn text) (ruled text) (suc (suc k)) ss a (a + length (bareBytes v))))
           → Selects text (along kids ss (flat (kids s) (bareTree a v ∷ []))) (onFound x (λ b f. walkFrom (byteIn text) (ruled text) (suc k + 1) ss b f) Refused)
       go (StepTaken.miss why h e f) p i r = rw (e, f, along-none kids ss) (Selects.none {why = why} (omega (arith, h)))
       go (StepTaken.hit a v e f g) p i r =
           let pa : P (bareTree a v) × Unit {0} = rw e at p in
-          let fits : Within (length text) (Found a (a + length (bareBytes v))) = rw f at i in
+          let fits : InRecord (length text) (Found a (a + length (bareBytes v))) = rw f at i in
           rw (e, f, append-nil, add-one) (r a v (pa .0) g (fits .1))
 
 -- the whole text is a value and blanks
@@ -134,7 +134,7 @@ module _ (text : List ℕ) (kids : Selector → Json → List Json) (P : Json �
   unfolding walk
   from-whole x ss q p h =
       let fits = value-in (byteIn text) 0 (length text) (length text) (omega arith) (omega arith) in
-      let f : WithinItem (length text) (Items.Found (h .place) (h .place + length (bareBytes (h .value)))) = rw (h .is-part) at fits in
+      let f : ItemInRecord (length text) (Items.Found (h .place) (h .place + length (bareBytes (h .value)))) = rw (h .is-part) at fits in
       rw (h .is-tree, h .is-part) (walked text kids P Q agree keeps ss 0 (h .place) (h .value) q (rw (h .is-tree) at p) (h .good) (f .1))
 
 -- ---- the steps of the subset's paths have ASCII names

@@ -25,64 +25,64 @@ use Rattle.paths.proofs.PlaceLaws.{pick-ind, first-ge, first-le, last-bounds}
 use Rattle.query.proofs.ItemLaws.{framed-long}
 
 -- an item, and an answer, in the first n bytes
-abbrev pub WithinItem : ℕ → Item → Type 0
-WithinItem n (Items.Found s e) = (s < e) × (e ≤ n)
-WithinItem n Items.Other = Unit {0}
-WithinItem n (Items.Broken why) = Unit {0}
+abbrev pub ItemInRecord : ℕ → Item → Type 0
+ItemInRecord n (Items.Found s e) = (s < e) × (e ≤ n)
+ItemInRecord n Items.Other = Unit {0}
+ItemInRecord n (Items.Broken why) = Unit {0}
 
 abbrev pub InRecord : ℕ → Answer → Type 0
 InRecord n r = onFound r (λ s e. (s < e) × (e ≤ n)) (λ why. Unit {0})
 
 -- ---- items
 
-pub value-in : (byte : ℕ → ℕ) (a e n : ℕ) → a ≤ e → e ≤ n → WithinItem n (valueAt byte a e)
+pub value-in : (byte : ℕ → ℕ) (a e n : ℕ) → a ≤ e → e ≤ n → ItemInRecord n (valueAt byte a e)
 unfolding valueAt
 value-in byte a e n h l =
-    pick-ind (WithinItem n) (ltb (trimStart byte a e) (trimEnd byte a e)) _ _
+    pick-ind (ItemInRecord n) (ltb (trimStart byte a e) (trimEnd byte a e)) _ _
     (λ q. (ltb-true _ _ q, omega (arith, last-bounds (solid byte) (trimStart byte a e) e (first-le (solid byte) a e h))))
     (λ _. tt)
 
-keyed-in : (byte : ℕ → ℕ) (quote : ℕ → Bool) (m : List ℕ) (a d e n : ℕ) → d < e → e ≤ n → WithinItem n (keyed byte quote m a d e)
+keyed-in : (byte : ℕ → ℕ) (quote : ℕ → Bool) (m : List ℕ) (a d e n : ℕ) → d < e → e ≤ n → ItemInRecord n (keyed byte quote m a d e)
 unfolding keyed
 keyed-in byte quote m a d e n h l =
     let p = trimStart byte a d in
     let q = trimEnd byte a d in
     let b = same (between byte (p + 1) (q - 1)) m in
-    pick-ind (WithinItem n) (quoted quote p q) (pick b (valueAt byte (d + 1) e) Items.Other) (Items.Broken BadName)
-    (λ _. pick-ind (WithinItem n) b (valueAt byte (d + 1) e) Items.Other (λ _. value-in byte (d + 1) e n (omega arith) l) (λ _. tt))
+    pick-ind (ItemInRecord n) (quoted quote p q) (pick b (valueAt byte (d + 1) e) Items.Other) (Items.Broken BadName)
+    (λ _. pick-ind (ItemInRecord n) b (valueAt byte (d + 1) e) Items.Other (λ _. value-in byte (d + 1) e n (omega arith) l) (λ _. tt))
     (λ _. tt)
 
-item-in : (byte : ℕ → ℕ) (bits : Bits) (k : ℕ) (m : List ℕ) (a e n : ℕ) → e ≤ n → WithinItem n (itemAt byte bits k m a e)
+item-in : (byte : ℕ → ℕ) (bits : Bits) (k : ℕ) (m : List ℕ) (a e n : ℕ) → e ≤ n → ItemInRecord n (itemAt byte bits k m a e)
 unfolding itemAt
 item-in byte bits k m a e n h =
     let d = firstAt (bits .colon k) a e in
-    pick-ind (WithinItem n) (ltb d e) (keyed byte (bits .quote) m a d e) (Items.Broken NoColon)
+    pick-ind (ItemInRecord n) (ltb d e) (keyed byte (bits .quote) m a d e) (Items.Broken NoColon)
     (λ q. keyed-in byte (bits .quote) m a d e n (ltb-true d e q) h)
     (λ _. tt)
 
-orElse-in : (n : ℕ) (it later : Item) → WithinItem n it → WithinItem n later → WithinItem n (orElse it later)
+orElse-in : (n : ℕ) (it later : Item) → ItemInRecord n it → ItemInRecord n later → ItemInRecord n (orElse it later)
 orElse-in n (Items.Found s e) later i j = i
 orElse-in n Items.Other later i j = j
 orElse-in n (Items.Broken why) later i j = tt
 
-items-in : (item : ℕ → ℕ → Item) (comma : ℕ → Bool) (n : ℕ) → ((a e : ℕ) → e ≤ n → WithinItem n (item a e))
-    → (c a e : ℕ) → a ≤ e → e ≤ n → WithinItem n (firstItemIn item comma c a e)
+items-in : (item : ℕ → ℕ → Item) (comma : ℕ → Bool) (n : ℕ) → ((a e : ℕ) → e ≤ n → ItemInRecord n (item a e))
+    → (c a e : ℕ) → a ≤ e → e ≤ n → ItemInRecord n (firstItemIn item comma c a e)
 unfolding firstItemIn
 items-in item comma n each zero a e h l = tt
 items-in item comma n each (suc c) a e h l =
     let d = firstAt comma a e in
     orElse-in n (item a d) (pick (ltb d e) (firstItemIn item comma c (d + 1) e) Items.Other) (each a d (omega (arith, first-le comma a e h)))
-    (pick-ind (WithinItem n) (ltb d e) _ _ (λ q. items-in item comma n each c (d + 1) e (omega (arith, ltb-true d e q)) l) (λ _. tt))
+    (pick-ind (ItemInRecord n) (ltb d e) _ _ (λ q. items-in item comma n each c (d + 1) e (omega (arith, ltb-true d e q)) l) (λ _. tt))
 
-itemNo-in : (byte : ℕ → ℕ) (comma : ℕ → Bool) (n m a e : ℕ) → a ≤ e → e ≤ n → WithinItem n (itemNo byte comma m a e)
+itemNo-in : (byte : ℕ → ℕ) (comma : ℕ → Bool) (n m a e : ℕ) → a ≤ e → e ≤ n → ItemInRecord n (itemNo byte comma m a e)
 unfolding itemNo
 itemNo-in byte comma n zero a e h l = value-in byte a (firstAt comma a e) n (first-ge comma a e h) (omega (arith, first-le comma a e h))
 itemNo-in byte comma n (suc m) a e h l =
-    pick-ind (WithinItem n) (ltb (firstAt comma a e) e) _ _ (λ q. itemNo-in byte comma n m (firstAt comma a e + 1) e (omega (arith, ltb-true (firstAt comma a e) e q)) l) (λ _. tt)
+    pick-ind (ItemInRecord n) (ltb (firstAt comma a e) e) _ _ (λ q. itemNo-in byte comma n m (firstAt comma a e + 1) e (omega (arith, ltb-true (firstAt comma a e) e q)) l) (λ _. tt)
 
 -- ---- steps
 
-pub of-in : (n : ℕ) (none : Refusal) (it : Item) → WithinItem n it → InRecord n (ofItem none it)
+pub of-in : (n : ℕ) (none : Refusal) (it : Item) → ItemInRecord n it → InRecord n (ofItem none it)
 of-in n none (Items.Found s e) i = i
 of-in n none Items.Other i = tt
 of-in n none (Items.Broken why) i = tt
