@@ -21,6 +21,7 @@ pub fn is_closer(byte: u8) -> bool {
 }
 
 /// The truth about a record, a byte at a time. `mask` and `depth` have one more entry, for place n.
+#[derive(Clone)]
 pub struct Truth {
     pub quote: Vec<bool>,
     pub mask: Vec<bool>,
@@ -67,7 +68,7 @@ pub fn width(n: usize) -> usize {
 }
 
 /// Quotes, then mask, then for k = 1 to L colons of k, commas of k.
-#[derive(Clone, Copy)]
+#[derive(Clone, Copy, Debug)]
 pub enum Bitmap {
     Quotes,
     Mask,
