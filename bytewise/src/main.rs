@@ -1,9 +1,10 @@
 //! What the programs of this repository must answer, found byte by byte: from the scope document alone for every run that it
 //! speaks of, and from the contracts where a run strays. The literal numbers of the document are asserted at every start.
 //!
-//!   bytewise cases SEED COUNT CALLS LINES [beyond]   writes the calls of the listed cases and of COUNT random ones,
-//!                                                    and the lines that `trial` must print for them; tells what it
-//!                                                    made. `beyond`: with a record above the limit, too
+//!   bytewise cases SEED COUNT CALLS LINES [beyond]   writes the calls of the listed cases, of COUNT random ones and of
+//!                                                    an eighth as many that stray, and the lines that `trial` must
+//!                                                    print for them; tells what it made. `beyond`: with a record
+//!                                                    above the limit, too
 //!   bytewise inputs SEED COUNT FOLDER                writes inputs for `show`, N.input, and its lines, N.line
 
 mod case;

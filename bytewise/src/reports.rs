@@ -7,10 +7,11 @@ use std::fmt::Debug;
 use crate::case::Case;
 use crate::path::{line, Found};
 use crate::records::brackets;
-use crate::rules::{row, truth, width, Bitmap, Fault};
-use Bitmap::{Colons, Commas, Mask, Quotes};
+use crate::rules::{truth, width, Fault};
 
+/// A bitmap's name, its place among the bitmaps, and its words.
 type Words = &'static [(Bitmap, &'static [u64])];
+type Bitmap = (&'static str, usize);
 type Paths = &'static [(&'static str, Found)];
 
 struct Report {
@@ -34,10 +35,18 @@ fn report(name: &'static str, record: &[u8]) -> Report {
 
 const RECORD_4: &[u8] = br#"{"a":[1,2],"b":{"c":3}}"#;
 
-const WORDS_1: Words = &[(Quotes, &[298]), (Mask, &[460]), (Colons(1), &[16]), (Commas(1), &[0])];
-const WORDS_2: Words = &[(Quotes, &[18]), (Mask, &[28]), (Commas(1), &[32])];
-const WORDS_4: Words = &[(Colons(1), &[16400]), (Colons(2), &[524288]), (Commas(1), &[1024]), (Commas(2), &[128])];
-const WORDS_5: Words = &[(Quotes, &[1 << 62, 8]), (Mask, &[1 << 63, 15])];
+/// "quotes, then mask, then for k = 1 to L colons of k, commas of k", counted out.
+const QUOTES: Bitmap = ("quotes", 0);
+const MASK: Bitmap = ("mask", 1);
+const COLONS_1: Bitmap = ("colons of level 1", 2);
+const COMMAS_1: Bitmap = ("commas of level 1", 3);
+const COLONS_2: Bitmap = ("colons of level 2", 4);
+const COMMAS_2: Bitmap = ("commas of level 2", 5);
+
+const WORDS_1: Words = &[(QUOTES, &[298]), (MASK, &[460]), (COLONS_1, &[16]), (COMMAS_1, &[0])];
+const WORDS_2: Words = &[(QUOTES, &[18]), (MASK, &[28]), (COMMAS_1, &[32])];
+const WORDS_4: Words = &[(COLONS_1, &[16400]), (COLONS_2, &[524288]), (COMMAS_1, &[1024]), (COMMAS_2, &[128])];
+const WORDS_5: Words = &[(QUOTES, &[1 << 62, 8]), (MASK, &[1 << 63, 15])];
 
 const PATHS_12: Paths = &[
     ("$", (0, 0, 23)),
@@ -109,8 +118,8 @@ impl Report {
         self.same("what settle finds", settled, self.fault);
         self.same("what close answers", closed, self.fault.unwrap_or((0, 0)));
         let wide = width(self.record.len());
-        for &(bitmap, said) in self.words {
-            self.same(&format!("{bitmap:?}"), &case.words[row(bitmap) * wide..][..wide], said);
+        for &((name, row), said) in self.words {
+            self.same(name, &case.words[row * wide..][..wide], said);
         }
         for &(path, said) in self.paths {
             self.same(path, case.query(0, self.levels, path.as_bytes()), said);

@@ -68,7 +68,7 @@ pub fn width(n: usize) -> usize {
 }
 
 /// Quotes, then mask, then for k = 1 to L colons of k, commas of k.
-#[derive(Clone, Copy, Debug)]
+#[derive(Clone, Copy)]
 pub enum Bitmap {
     Quotes,
     Mask,

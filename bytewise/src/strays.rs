@@ -166,6 +166,42 @@ fn other_words() -> Vec<Case> {
     list
 }
 
+/// Records with a chunk whose counts announce a fault; what lies behind it shows the depth that is handed on, or the end's fault.
+fn announcing() -> [(usize, Vec<u8>); 8] {
+    [
+        (0, spread(&[(0, b"]"), (64, b"[1,2]")])),
+        (0, spread(&[(0, b"][["), (64, b"1,2]")])),
+        (1, spread(&[(64, b"]"), (128, b"[1,2]")])),
+        (1, spread(&[(0, &[b'['; 10]), (64, &[b'{'; 60]), (128, b"[")])),
+        (2, spread(&[(128, b"]")])),
+        (2, spread(&[(128, b"][[")])),
+        (2, spread(&[(128, b"]\"")])),
+        (2, spread(&[(0, &[b'['; 40]), (64, &[b'['; 24]), (128, b"[]")])),
+    ]
+}
+
+/// That fault is no longer there when the chunk is settled: a blank record is lent for this call, or a mask over all brackets.
+fn announced_faults() -> Vec<Case> {
+    let mut list = Vec::new();
+    for (k, record) in announcing() {
+        let settle = 3 + 2 * k;
+        for masked in [false, true] {
+            let mut case = opened(&record);
+            go(&mut case, 3, 0, settle, 0);
+            if masked {
+                case.damage(row(Bitmap::Mask) * 3 + k, u64::MAX);
+            } else {
+                case.set_record(&spread(&[]));
+            }
+            go(&mut case, 3, settle, settle + 1, 0);
+            case.set_record(&record);
+            go(&mut case, 3, settle + 1, ALL, 0);
+            list.push(ended(case));
+        }
+    }
+    list
+}
+
 /// A record of the same length: some bytes changed, all others, or the same bytes from another place on.
 fn other_record(random: &mut Random, record: &[u8]) -> Vec<u8> {
     let n = record.len();
@@ -245,6 +281,6 @@ fn random_case(random: &mut Random) -> Case {
 /// The lists, and so many random ones. No number is drawn from those of the other cases.
 pub fn all(seed: u64, count: usize) -> impl Iterator<Item = Case> {
     let mut random = Random::new(!seed);
-    let listed = [older_jobs(), other_records(), words_of_a_run(), other_words()];
+    let listed = [older_jobs(), other_records(), words_of_a_run(), other_words(), announced_faults()];
     listed.into_iter().flatten().chain((0..count).map(move |_| random_case(&mut random)))
 }
