@@ -1,7 +1,9 @@
 //! A case: the calls that `trial` reads, and the line that it must print for them.
 
-use crate::job::{closed, open, Job, Step};
-use crate::path::query;
+use crate::handed::{closed, open, Handed};
+use crate::job::{Answer, Step};
+use crate::path::{query, Found};
+use crate::rules::width;
 
 /// A call is lent one byte less of the record, or one word less.
 pub const SHORT_RECORD: u8 = 2;
@@ -12,15 +14,35 @@ pub struct Case {
     pub line: String,
     pub record: Vec<u8>,
     pub words: Vec<u64>,
-    pub job: Job,
+    pub job: Handed,
+    kept: Handed,
     digest: u64,
     /// How often each number was given.
     pub seen: [u64; 32],
 }
 
+/// The number of words for a record of n bytes.
+pub fn size(n: usize, levels: usize) -> usize {
+    (2 + 2 * levels) * width(n)
+}
+
+fn mix(digest: u64, word: u64) -> u64 {
+    let turned = digest.rotate_left(23) ^ word;
+    (turned ^ (turned >> 29)).wrapping_add(0x9E37_79B9_7F4A_7C15)
+}
+
 impl Case {
     pub fn new() -> Case {
-        Case { calls: Vec::new(), line: String::new(), record: Vec::new(), words: Vec::new(), job: closed(), digest: 0, seen: [0; 32] }
+        Case {
+            calls: Vec::new(),
+            line: String::new(),
+            record: Vec::new(),
+            words: Vec::new(),
+            job: closed(),
+            kept: closed(),
+            digest: 0,
+            seen: [0; 32],
+        }
     }
 
     fn head(&mut self, letter: u8, flag: u8, levels: usize, length: usize, value: u64) {
@@ -63,29 +85,45 @@ impl Case {
         }
     }
 
-    /// Of a call that may write words: its answer, and the words as lent go into the digest.
-    fn told(&mut self, number: u64, place: usize, lent: usize) {
-        self.seen[number as usize] += 1;
-        self.line.push_str(&format!(" {number}@{place}"));
-        for word in &self.words[..lent] {
-            let turned = self.digest.rotate_left(23) ^ word;
-            self.digest = (turned ^ (turned >> 29)).wrapping_add(0x9E37_79B9_7F4A_7C15);
-        }
+    /// A copy of the job is kept, and later handed in again.
+    pub fn keep(&mut self) {
+        self.head(b'K', 0, 0, 0, 0);
+        self.kept = self.job.clone();
     }
 
-    pub fn open(&mut self, flag: u8, levels: usize, cuts: &[usize]) -> u64 {
+    pub fn hand_in(&mut self) {
+        self.head(b'H', 0, 0, 0, 0);
+        self.job = self.kept.clone();
+    }
+
+    /// Of a call that may write words: its answer, and the words as lent go into the digest.
+    fn told(&mut self, (number, place): Answer, lent: usize) {
+        self.seen[number as usize] += 1;
+        self.line.push_str(&format!(" {number}@{place}"));
+        self.digest = self.words[..lent].iter().fold(self.digest, |digest, &word| mix(digest, word));
+    }
+
+    /// Of a query: where the part lies, and the low half of a digest of its bytes. A refused query's part is empty.
+    fn told_part(&mut self, (number, start, end): Found, record: &[u8]) {
+        self.seen[number as usize] += 1;
+        let part = if number == 0 { &record[start..end] } else { &record[..0] };
+        let digest = part.iter().fold(0, |digest, &byte| mix(digest, u64::from(byte)));
+        self.line.push_str(&format!(" {number}@{start}+{}:{:08x}", part.len(), digest as u32));
+    }
+
+    pub fn open(&mut self, flag: u8, levels: usize, cuts: &[usize]) -> Answer {
         self.head(b'O', flag, levels, 8 * cuts.len(), 0);
         for &cut in cuts {
             self.calls.extend_from_slice(&(cut as u64).to_le_bytes());
         }
         let lent = self.lent_words(flag);
-        let ((number, place), job) = open(&self.record[..self.lent_bytes(flag)], lent, levels, cuts);
+        let (answer, job) = open(&self.record[..self.lent_bytes(flag)], &self.words[..lent], levels, cuts);
         self.job = job;
-        self.told(number, place, lent);
-        number
+        self.told(answer, lent);
+        answer
     }
 
-    pub fn step(&mut self, step: Step, flag: u8, k: usize, guess: bool) -> u64 {
+    pub fn step(&mut self, step: Step, flag: u8, k: usize, guess: bool) -> Answer {
         let letter = match step {
             Step::Scan => b'S',
             Step::Settle => b'T',
@@ -93,17 +131,17 @@ impl Case {
         };
         self.head(letter, flag | u8::from(guess), 0, 0, k as u64);
         let (n, lent) = (self.lent_bytes(flag), self.lent_words(flag));
-        let (number, place) = self.job.step(step, n, &mut self.words[..lent], k, guess);
-        self.told(number, place, lent);
-        number
+        let answer = self.job.step(step, &self.record[..n], &mut self.words[..lent], k, guess);
+        self.told(answer, lent);
+        answer
     }
 
-    pub fn close(&mut self, flag: u8) -> u64 {
+    pub fn close(&mut self, flag: u8) -> Answer {
         self.head(b'C', flag, 0, 0, 0);
         let (n, lent) = (self.lent_bytes(flag), self.lent_words(flag));
-        let (number, place) = self.job.close(n, &mut self.words[..lent]);
-        self.told(number, place, lent);
-        number
+        let answer = self.job.close(&self.record[..n], &mut self.words[..lent]);
+        self.told(answer, lent);
+        answer
     }
 
     pub fn ask(&mut self, k: usize) {
@@ -113,26 +151,42 @@ impl Case {
         self.line.push_str(&format!(" {number}@{chunks}+{had}"));
     }
 
-    pub fn query(&mut self, flag: u8, levels: usize, path: &[u8]) -> u64 {
+    pub fn query(&mut self, flag: u8, levels: usize, path: &[u8]) -> Found {
         self.head(b'Q', flag, levels, path.len(), 0);
         self.calls.extend_from_slice(path);
-        let record = &self.record[..self.lent_bytes(flag)];
-        let (number, start, end) = query(record, &self.words[..self.lent_words(flag)], levels, path);
-        self.seen[number as usize] += 1;
-        self.line.push_str(&format!(" {number}@{start}+{}", end - start));
-        number
+        let record = self.record[..self.lent_bytes(flag)].to_vec();
+        let found = query(&record, &self.words[..self.lent_words(flag)], levels, path);
+        self.told_part(found, &record);
+        found
     }
 
     /// A record of one byte more than the limit, asked for `$` and then opened. It is too long to be written down.
     pub fn beyond(&mut self, levels: usize) {
         self.head(b'B', 0, levels, 0, 0);
         let record = vec![b' '; 16_777_217];
-        let (number, start, end) = query(&record, &self.words, levels, b"$");
-        self.seen[number as usize] += 1;
-        self.line.push_str(&format!(" {number}@{start}+{}", end - start));
-        let ((number, place), job) = open(&record, self.words.len(), levels, &[64]);
+        self.told_part(query(&record, &self.words, levels, b"$"), &record);
+        let (answer, job) = open(&record, &self.words, levels, &[64]);
         self.job = job;
-        self.told(number, place, self.words.len());
+        self.told(answer, self.words.len());
+    }
+
+    /// Every chunk in order, with the guesses of `guess`; then close. What the settles found, and what close answered.
+    pub fn plain_run(&mut self, levels: usize, cuts: &[usize], guess: impl Fn(usize) -> bool) -> (Option<Answer>, Answer) {
+        let (count, seed) = (size(self.record.len(), levels), 77 + self.record.len() as u64);
+        self.set_words(count, seed);
+        self.open(0, levels, cuts);
+        for k in (0..=cuts.len()).rev() {
+            self.step(Step::Scan, 0, k, guess(k));
+        }
+        let mut fault = None;
+        for k in 0..=cuts.len() {
+            let settled = self.step(Step::Settle, 0, k, false);
+            if settled.0 >= 13 {
+                fault = Some(settled);
+            }
+            self.step(Step::Level, 0, k, false);
+        }
+        (fault, self.close(0))
     }
 
     pub fn end(&mut self) {

@@ -1,36 +1,20 @@
-//! Which cases there are: the reports of the scope document, a list for each thing that has gone wrong before, and random ones.
+//! Which cases there are: the reports of the scope document, a list for each thing that has gone wrong before, random ones, and
+//! runs that stray.
 
-use crate::case::{Case, SHORT_RECORD, SHORT_WORDS};
+use crate::case::{size, Case, SHORT_RECORD, SHORT_WORDS};
 use crate::job::{State, Step};
 use crate::random::Random;
-use crate::records::{damaged, deep, json, noise, path, wrapped, Text};
+use crate::records::{brackets, damaged, deep, json, noise, path, wrapped, Text};
+use crate::reports;
 use crate::rules::width;
+use crate::strays;
 
 const STEPS: [Step; 3] = [Step::Scan, Step::Settle, Step::Level];
-
-fn size(n: usize, levels: usize) -> usize {
-    (2 + 2 * levels) * width(n)
-}
-
-/// Every chunk in order, with the guesses of `guess`; then close. Stops with a fault.
-fn plain_run(case: &mut Case, levels: usize, cuts: &[usize], guess: impl Fn(usize) -> bool) {
-    let (count, seed) = (size(case.record.len(), levels), 77 + case.record.len() as u64);
-    case.set_words(count, seed);
-    case.open(0, levels, cuts);
-    for k in (0..=cuts.len()).rev() {
-        case.step(Step::Scan, 0, k, guess(k));
-    }
-    for k in 0..=cuts.len() {
-        case.step(Step::Settle, 0, k, false);
-        case.step(Step::Level, 0, k, false);
-    }
-    case.close(0);
-}
 
 fn plain(record: &[u8], levels: usize, cuts: &[usize], guesses: u64, paths: &[&str]) -> Case {
     let mut case = Case::new();
     case.set_record(record);
-    plain_run(&mut case, levels, cuts, |k| guesses >> (k % 64) & 1 == 1);
+    case.plain_run(levels, cuts, |k| guesses >> (k % 64) & 1 == 1);
     for path in paths {
         case.query(0, levels, path.as_bytes());
     }
@@ -38,34 +22,12 @@ fn plain(record: &[u8], levels: usize, cuts: &[usize], guesses: u64, paths: &[&s
     case
 }
 
-/// The reports of the document, those that are proved too.
-fn reports() -> Vec<Case> {
-    let record4 = br#"{"a":[1,2],"b":{"c":3}}"#;
-    let mut report5 = vec![b' '; 62];
-    report5.extend_from_slice(b"\"\\\" ,\"");
-    let mut list = vec![
-        plain(br#"{"a":":,"}"#, 1, &[], 0, &["$.a"]),
-        plain(br#"["\\",1]"#, 1, &[], 0, &["$[1]"]),
-        plain(br#"["\"",1]"#, 1, &[], 0, &["$[1]"]),
-        plain(record4, 2, &[], 0, &["$", "$.b.c", "$.a[1]", "$.c", "$.a.x", "$[0]", "$.a[2]", "$.a[01]", "$."]),
-        plain(record4, 1, &[], 0, &["$.a[1]"]),
-        plain(b"[1,]", 1, &[], 0, &["$[1]", "$[2]"]),
-        plain(b" {} ", 1, &[], 0, &["$", "$.a"]),
-        plain(br#"{"a":1,"a":2}"#, 1, &[], 0, &["$.a"]),
-        plain(br#"{"a":1,"b":[2,30]}"#, 4, &[], 0, &["$.b[1]"]),
-        plain(b"  \n ", 1, &[], 0, &["$"]),
-    ];
-    for guesses in 0..4 {
-        list.push(plain(&report5, 1, &[64], guesses, &["$"]));
-    }
-    for record in [&b"]"[..], b"[", b"[\"", b"[]][\"", b"{]"] {
-        list.push(plain(record, 1, &[], 0, &["$"]));
-        list.push(plain(record, 1, &[], 1, &["$"]));
-    }
+/// Depths about the highest, 64.
+fn deepest() -> Vec<Case> {
+    let mut list = Vec::new();
     for depth in 63..=66 {
-        let record = [vec![b'['; depth], vec![b']'; depth]].concat();
         for cuts in [&[][..], &[64]] {
-            list.push(plain(&record, 2, cuts, 2, &["$", "$[0]", "$[0][0]"]));
+            list.push(plain(&brackets(depth), 2, cuts, 2, &["$", "$[0]", "$[0][0]"]));
         }
     }
     list
@@ -178,7 +140,7 @@ fn sizes(random: &mut Random) -> Vec<Case> {
     list
 }
 
-fn text(random: &mut Random) -> Text {
+pub fn text(random: &mut Random) -> Text {
     let room = *random.pick(&[4, 20, 60, 60, 120, 120, 250, 500, 1200]);
     match random.below(12) {
         0..=5 => json(random, room),
@@ -208,7 +170,7 @@ fn text(random: &mut Random) -> Text {
     }
 }
 
-fn good_cuts(random: &mut Random, n: usize) -> Vec<usize> {
+pub fn good_cuts(random: &mut Random, n: usize) -> Vec<usize> {
     let keep = *random.pick(&[0, 1, 2, 4]);
     let mut cuts: Vec<usize> = (1..width(n)).map(|w| 64 * w).filter(|_| random.below(4) < keep).collect();
     while cuts.len() > 63 {
@@ -242,7 +204,7 @@ fn flag(random: &mut Random) -> u8 {
 }
 
 fn chunk(random: &mut Random, case: &Case) -> usize {
-    let chunks = case.job.chunks.len();
+    let chunks = case.job.chunks().len();
     match random.below(8) {
         0 => chunks,
         1 => *random.pick(&[63, 64, 65, usize::MAX, 1 << 32]),
@@ -251,7 +213,7 @@ fn chunk(random: &mut Random, case: &Case) -> usize {
 }
 
 /// Any call at all, most of them refused.
-fn any_call(random: &mut Random, case: &mut Case) {
+pub fn any_call(random: &mut Random, case: &mut Case) {
     let k = chunk(random, case);
     match random.below(6) {
         0 => case.ask(k),
@@ -267,36 +229,41 @@ fn any_call(random: &mut Random, case: &mut Case) {
 }
 
 /// Steps in any order that is accepted, with other calls between them, until the job is closed.
-fn run_job(random: &mut Random, case: &mut Case) {
+pub fn run_job(random: &mut Random, case: &mut Case) {
     let others = *random.pick(&[0, 0, 1, 3]);
-    while case.job.state != State::Closed {
+    while case.job.state() != State::Closed {
         while random.below(10) < others {
             any_call(random, case);
         }
-        let mut ready = Vec::new();
-        for (k, c) in case.job.chunks.iter().enumerate() {
-            let before = k == 0 || case.job.chunks[k - 1].had[1];
-            if !c.had[0] {
-                ready.push((Step::Scan, k));
-            }
-            if c.had[0] && !c.had[1] && before {
-                ready.push((Step::Settle, k));
-            }
-            if c.had[1] && !c.had[2] {
-                ready.push((Step::Level, k));
-            }
-        }
-        if ready.is_empty() || case.job.state != State::Open {
-            case.close(0);
-        } else {
-            let (step, k) = *random.pick(&ready);
-            let guess = random.chance(1, 2);
-            case.step(step, 0, k, guess);
-        }
+        accepted_call(random, case);
     }
 }
 
-fn ask_paths(random: &mut Random, case: &mut Case, levels: usize, paths: &[Vec<u8>], times: usize) {
+/// A step that is accepted, or close where there is none.
+pub fn accepted_call(random: &mut Random, case: &mut Case) {
+    let mut ready = Vec::new();
+    for (k, c) in case.job.chunks().iter().enumerate() {
+        let before = k == 0 || case.job.chunks()[k - 1].had[1];
+        if !c.had[0] {
+            ready.push((Step::Scan, k));
+        }
+        if c.had[0] && !c.had[1] && before {
+            ready.push((Step::Settle, k));
+        }
+        if c.had[1] && !c.had[2] {
+            ready.push((Step::Level, k));
+        }
+    }
+    if ready.is_empty() || case.job.state() != State::Open {
+        case.close(0);
+    } else {
+        let (step, k) = *random.pick(&ready);
+        let guess = random.chance(1, 2);
+        case.step(step, 0, k, guess);
+    }
+}
+
+pub fn ask_paths(random: &mut Random, case: &mut Case, levels: usize, paths: &[Vec<u8>], times: usize) {
     for _ in 0..times {
         let path = path(random, paths);
         let flag = if random.chance(1, 20) { flag(random) } else { 0 };
@@ -408,15 +375,16 @@ fn repeated(text: &[u8], times: usize) -> Vec<u8> {
     record
 }
 
-/// The cases of every list, and so many random ones.
+/// The cases of every list, and so many random ones; behind them those of runs that stray, which draw from numbers of their own.
 pub fn all(seed: u64, count: usize, with_beyond: bool) -> impl Iterator<Item = Case> {
     let mut random = Random::new(seed);
-    let mut listed = reports();
+    let mut listed = reports::cases();
+    listed.extend(deepest());
     listed.extend(with_beyond.then(beyond));
     listed.extend(items());
     listed.extend(runs(&mut random));
     listed.extend(borders());
     listed.extend(faults());
     listed.extend(sizes(&mut random));
-    listed.into_iter().chain((0..count).map(move |_| random_case(&mut random)))
+    listed.into_iter().chain((0..count).map(move |_| random_case(&mut random))).chain(strays::all(seed, count / 8))
 }

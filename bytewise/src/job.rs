@@ -19,19 +19,21 @@ pub enum Step {
     Level,
 }
 
+#[derive(Clone)]
 pub struct Chunk {
     pub from: usize,
     pub to: usize,
     pub had: [bool; 3],
 }
 
+#[derive(Clone)]
 pub struct Job {
     pub n: usize,
     pub size: usize,
     pub levels: usize,
     pub state: State,
     pub chunks: Vec<Chunk>,
-    record: Vec<u8>,
+    pub record: Vec<u8>,
     truth: Truth,
 }
 
@@ -81,7 +83,7 @@ impl Job {
     }
 
     /// 7 to 12 in that order.
-    fn step_refusal(&self, step: Step, n: usize, size: usize, k: usize) -> Option<Answer> {
+    pub fn step_refusal(&self, step: Step, n: usize, size: usize, k: usize) -> Option<Answer> {
         if self.state == State::Closed {
             return Some((7, 0));
         }
@@ -110,22 +112,27 @@ impl Job {
         }
     }
 
-    /// A step on the record with which the job was opened; `n` bytes of it are lent.
-    pub fn step(&mut self, step: Step, n: usize, words: &mut [u64], k: usize, guess: bool) -> Answer {
-        if let Some(refusal) = self.step_refusal(step, n, words.len(), k) {
-            return refusal;
-        }
-        self.chunks[k].had[step as usize] = true;
+    /// An accepted step, on the record with which the job was opened.
+    pub fn step(&mut self, step: Step, words: &mut [u64], k: usize, guess: bool) -> Answer {
         let (from, to) = (self.chunks[k].from, self.chunks[k].to);
-        match step {
+        let answer = match step {
             Step::Scan => self.scan(words, from, to, guess),
-            Step::Settle => return self.settle(words, from, to),
+            Step::Settle => self.settle(words, from, to),
             Step::Level => self.level(words, from, to),
-        }
-        (0, 0)
+        };
+        self.mark(step, k, answer);
+        answer
     }
 
-    fn scan(&self, words: &mut [u64], from: usize, to: usize, guess: bool) {
+    /// A step was taken, and answered so.
+    pub fn mark(&mut self, step: Step, k: usize, answer: Answer) {
+        self.chunks[k].had[step as usize] = true;
+        if answer.0 != 0 {
+            self.state = State::Stopped(answer);
+        }
+    }
+
+    fn scan(&self, words: &mut [u64], from: usize, to: usize, guess: bool) -> Answer {
         let quote = &self.truth.quote;
         set_bits(words, self.n, Bitmap::Quotes, from, to, |i| quote[i]);
         let mut inside = vec![guess; to - from];
@@ -133,27 +140,26 @@ impl Job {
             inside[i - from] = inside[i - 1 - from] != quote[i - 1];
         }
         set_bits(words, self.n, Bitmap::Mask, from, to, |i| inside[i - from]);
+        (0, 0)
     }
 
-    fn settle(&mut self, words: &mut [u64], from: usize, to: usize) -> Answer {
+    fn settle(&self, words: &mut [u64], from: usize, to: usize) -> Answer {
         let mask = &self.truth.mask;
         set_bits(words, self.n, Bitmap::Mask, from, to, |i| mask[i]);
         match self.truth.fault {
-            Some((number, place)) if place >= from && (place < to || to == self.n) => {
-                self.state = State::Stopped((number, place));
-                (number, place)
-            }
+            Some((number, place)) if place >= from && (place < to || to == self.n) => (number, place),
             _ => (0, 0),
         }
     }
 
-    fn level(&self, words: &mut [u64], from: usize, to: usize) {
+    fn level(&self, words: &mut [u64], from: usize, to: usize) -> Answer {
         let t = &self.truth;
         let at = |i: usize, byte: u8, k: usize| self.record[i] == byte && !t.mask[i] && t.depth[i] == k as i64;
         for k in 1..=self.levels {
             set_bits(words, self.n, Bitmap::Colons(k), from, to, |i| at(i, b':', k));
             set_bits(words, self.n, Bitmap::Commas(k), from, to, |i| at(i, b',', k));
         }
+        (0, 0)
     }
 
     pub fn close(&mut self, n: usize, words: &mut [u64]) -> Answer {

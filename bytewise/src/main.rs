@@ -1,17 +1,23 @@
-//! What the programs of this repository must answer, found byte by byte from the scope document alone.
+//! What the programs of this repository must answer, found byte by byte: from the scope document alone for every run that it
+//! speaks of, and from the contracts where a run strays. The literal numbers of the document are asserted at every start.
 //!
-//!   bytewise cases SEED COUNT CALLS LINES [beyond]   writes the calls of the listed cases and of COUNT random ones,
-//!                                                    and the lines that `trial` must print for them; tells what it
-//!                                                    made. `beyond`: with a record above the limit, too
+//!   bytewise cases SEED COUNT CALLS LINES [beyond]   writes the calls of the listed cases, of COUNT random ones and of
+//!                                                    an eighth as many that stray, and the lines that `trial` must
+//!                                                    print for them; tells what it made. `beyond`: with a record
+//!                                                    above the limit, too
 //!   bytewise inputs SEED COUNT FOLDER                writes inputs for `show`, N.input, and its lines, N.line
 
 mod case;
 mod cases;
+mod contract;
+mod handed;
 mod job;
 mod path;
 mod random;
 mod records;
+mod reports;
 mod rules;
+mod strays;
 
 use std::fs::File;
 use std::io::{BufWriter, Write};
@@ -50,15 +56,15 @@ fn write_cases(seed: u64, count: usize, calls: &str, lines: &str, beyond: bool) 
 fn write_inputs(seed: u64, count: usize, folder: &str) -> std::io::Result<bool> {
     let inputs = cases::inputs(seed, count);
     for (i, input) in inputs.iter().enumerate() {
-        let (number, start, end) = path::shown(input);
         std::fs::write(format!("{folder}/{i}.input"), input)?;
-        std::fs::write(format!("{folder}/{i}.line"), format!("{number} {start} {end}\n"))?;
+        std::fs::write(format!("{folder}/{i}.line"), path::line(input))?;
     }
     println!("{} inputs", inputs.len());
     Ok(true)
 }
 
 fn main() {
+    reports::check();
     let words: Vec<String> = std::env::args().skip(1).collect();
     let words: Vec<&str> = words.iter().map(String::as_str).collect();
     let number = |word: &str| word.parse::<u64>().ok();

@@ -186,7 +186,12 @@ pub fn query(record: &[u8], words: &[u64], levels: usize, path: &[u8]) -> Found 
 }
 
 /// The line that the showing program prints.
-pub fn shown(input: &[u8]) -> Found {
+pub fn line(input: &[u8]) -> String {
+    let (number, start, end) = shown(input);
+    format!("{number} {start} {end}\n")
+}
+
+fn shown(input: &[u8]) -> Found {
     let end = input.iter().position(|&b| b == b'\n');
     let (path, record) = match end {
         Some(i) => (&input[..i], &input[i + 1..]),
@@ -207,7 +212,7 @@ pub fn shown(input: &[u8]) -> Found {
         (job, words)
     };
     for step in [crate::job::Step::Scan, crate::job::Step::Settle, crate::job::Step::Level] {
-        let (number, place) = job.step(step, record.len(), &mut words, 0, false);
+        let (number, place) = job.step(step, &mut words, 0, false);
         if number != 0 {
             return (number, place, place);
         }

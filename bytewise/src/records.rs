@@ -137,6 +137,11 @@ pub fn noise(random: &mut Random, length: usize) -> Text {
     Text { bytes, paths: vec![b"$".to_vec(), b"$[0]".to_vec(), b"$.a".to_vec(), b"$[1][0]".to_vec()] }
 }
 
+/// So many openers, and as many closers.
+pub fn brackets(depth: usize) -> Vec<u8> {
+    [vec![b'['; depth], vec![b']'; depth]].concat()
+}
+
 /// Brackets to a depth, with blanks between some of them; `extra` closers more or fewer.
 pub fn deep(random: &mut Random, depth: usize, extra: i64) -> Text {
     let mut bytes = Vec::new();

@@ -21,6 +21,7 @@ pub fn is_closer(byte: u8) -> bool {
 }
 
 /// The truth about a record, a byte at a time. `mask` and `depth` have one more entry, for place n.
+#[derive(Clone)]
 pub struct Truth {
     pub quote: Vec<bool>,
     pub mask: Vec<bool>,

@@ -1,15 +1,15 @@
 -- The parts of an input, and the buffers for its record.
-use Prim.Native.Nat.{ℕ, zero, suc, _+_, _*_, _-_, _/_, _≤_, _<_}
+use Prim.Native.Nat.{ℕ, zero, suc, _+_, _*_, _-_, _≤_, _<_}
 use mathlib.Core.Path.{_≡_, refl, sym, ap, _∙_}
 use mathlib.Core.List.{List, _∷_}
 use native.Mathlib.Omega.{arith}
 use lib.ListN.{length, take, drop, replicate, drop-of-length-le, length-replicate, length-drop}
 use lib.Seq.{length-take-le, take-all}
 use borrow.Author.Tests.{lt-ltb, le-ltb}
-use Rattle.rules.specs.Layout.{listed, widthOf, sizeOf}
-use Rattle.show.specs.Running.{multiples, cutsOf}
+use Rattle.rules.specs.Layout.{listed}
+use Rattle.show.specs.Running.{multiples}
 use Rattle.paths.proofs.PlaceLaws.{first-le}
-use Rattle.show.specs.Printing.{isFeed, pathEnd, placed, zeros, printedIn, printedOf, shown}
+use Rattle.show.specs.Printing.{isFeed, pathEnd, placed, zeros, printedOf, shown}
 
 -- ---- buffers
 
@@ -29,11 +29,11 @@ unfolding listed
 listed-long f i zero = refl
 listed-long f i (suc k) = ap suc (listed-long f (suc i) k)
 
-take-multiples : (m k : ℕ) → m ≤ k → take m (multiples k) ≡ multiples m
+pub take-multiples : (m k : ℕ) → m ≤ k → take m (multiples k) ≡ multiples m
 unfolding multiples
 take-multiples m k l = take-listed (λ i. 1024 * i) 1 m k l
 
-take-zeros : (m k : ℕ) → m ≤ k → take m (zeros k) ≡ zeros m
+pub take-zeros : (m k : ℕ) → m ≤ k → take m (zeros k) ≡ zeros m
 unfolding zeros
 take-zeros m k l = take-replicate m k l
 
@@ -47,12 +47,6 @@ zeros-long k = length-replicate k 0
 
 pub take-fits : (l : List ℕ) {m k : ℕ} → length l ≡ k → m ≤ k → m ≡ length (take m l)
 take-fits l {m} e h = sym (length-take-le m l (omega (arith, e, h)))
-
-pub lent : (text path : List ℕ) → length text ≤ 16384 → {count size : ℕ} {words cuts : List ℕ} → count ≡ (length text - 1) / 1024 → size ≡ sizeOf 4 (length text) → words ≡ zeros 2560 → cuts ≡ multiples 15
-    → printedIn text (take size words) (take count cuts) path ≡ printedOf text path
-unfolding printedOf cutsOf sizeOf widthOf
-lent text path l ec es ew eu =
-    rw (ec, es, ew, eu, take-zeros (10 * ((length text + 63) / 64)) 2560 (omega arith), take-multiples ((length text - 1) / 1024) 15 (omega arith))
 
 -- ---- cases of the line
 

@@ -8,6 +8,7 @@ use crate::lending::cut;
 use crate::telling::digest_of;
 use crate::telling::tell;
 use crate::telling::tell_end;
+use crate::telling::tell_part;
 use crate::telling::tell_two;
 use index::Had;
 use index::Handed;
@@ -17,6 +18,11 @@ use index::Job;
 pub fn no_job() -> Job {
     let opened = Job::open(&[0u8; 1], &[0u64; 1], 0, &[0usize; 1]);
     opened.job
+}
+
+// K: the job is kept, in the place of an older one.
+pub fn keep(head: Head, job: Job, kept: Job) -> Job {
+    if head.letter == b'K' { job } else { kept }
 }
 
 fn told(handed: Handed, words: &[u64], digest: &mut u64) -> Job {
@@ -77,22 +83,22 @@ fn ask(job: Job, k: usize) {
     }
 }
 
-fn tell_part(text: &[u8], words: &[u64], levels: usize, path: &[u8]) {
+fn find(text: &[u8], words: &[u64], levels: usize, path: &[u8]) {
     let mut number = 0;
     let mut place = 0;
     let part = query::query(text, words, levels, path, &mut number, &mut place);
-    tell_two(number, place, part.len());
+    tell_part(number, place, part);
 }
 
 // Q: with the path that follows.
 fn ask_path(head: Head, text: &[u8], words: &[u64]) {
     let mut bytes = io::buffer();
     let got = read_bytes(head.length, &mut bytes);
-    tell_part(text, words, head.levels, &bytes[..got]);
+    find(text, words, head.levels, &bytes[..got]);
 }
 
 fn ask_and_open(text: &[u8], levels: usize, words: &[u64], digest: &mut u64) -> Job {
-    tell_part(text, words, levels, b"$");
+    find(text, words, levels, b"$");
     told(Job::open(text, words, levels, &[64usize; 1]), words, digest)
 }
 
@@ -136,9 +142,10 @@ fn is_call(letter: u8) -> bool {
     }
 }
 
-// E ends a case.
+// E ends a case. H hands the kept job in.
 pub fn call(
     job: Job,
+    kept: Job,
     head: Head,
     lent: Lent,
     text: &[u8],
@@ -149,6 +156,9 @@ pub fn call(
         tell_end(*digest);
         *digest = 0;
         return job;
+    }
+    if head.letter == b'H' {
+        return kept;
     }
     if is_call(head.letter) {
         let n = cut(lent.n, head.flag, 2, text.len());

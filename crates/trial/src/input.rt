@@ -9,7 +9,7 @@ pub struct Head {
     pub value: u64,
 }
 
-fn wide(x: u8) -> u64 {
+pub fn wide(x: u8) -> u64 {
     x as u64
 }
 

@@ -10,6 +10,7 @@ mod telling;
 // Nothing says that the input ends, so the calls are counted down, from a number that no input uses up.
 fn run(text: &mut [u8], words: &mut [u64]) {
     let mut job = calls::no_job();
+    let mut kept = job;
     let mut lent = lending::nothing();
     let mut digest = 0;
     let mut turns = u64::MAX;
@@ -18,8 +19,9 @@ fn run(text: &mut [u8], words: &mut [u64]) {
         if head.letter == 0 {
             return;
         }
+        kept = calls::keep(head, job, kept);
         lent = lending::prepare(lent, head, text, words);
-        job = calls::call(job, head, lent, text, words, &mut digest);
+        job = calls::call(job, kept, head, lent, text, words, &mut digest);
         turns -= 1;
     }
 }

@@ -1,5 +1,7 @@
-// What is printed: of each call ` number@place`, of a query or an asking ` number@first+second`; at a
-// case's end the digest of the words as every call of it left them.
+// What is printed: of each call ` number@place`, of an asking ` number@chunks+steps`, of a query
+// ` number@place+length:digest` with a digest of the part's bytes; at a case's end the digest of the words as every call of it
+// left them.
+use crate::input::wide;
 
 fn mix(digest: u64, word: u64) -> u64 {
     let turned = ((digest << 23) | (digest >> 41)) ^ word;
@@ -16,6 +18,16 @@ pub fn digest_of(digest: u64, words: &[u64]) -> u64 {
     d
 }
 
+fn digest_of_bytes(bytes: &[u8]) -> u64 {
+    let mut d = 0;
+    let mut i = 0;
+    while i < bytes.len() {
+        d = mix(d, wide(bytes[i]));
+        i += 1;
+    }
+    d
+}
+
 pub fn tell(number: u64, place: usize) {
     io::write_all(1, b" ");
     io::print_decimal(1, number);
@@ -27,6 +39,13 @@ pub fn tell_two(number: u64, first: usize, second: usize) {
     tell(number, first);
     io::write_all(1, b"+");
     io::print_decimal(1, second as u64);
+}
+
+// The low half of the digest is told.
+pub fn tell_part(number: u64, place: usize, part: &[u8]) {
+    tell_two(number, place, part.len());
+    io::write_all(1, b":");
+    io::print_hex(1, digest_of_bytes(part) % 4294967296, 8);
 }
 
 pub fn tell_end(digest: u64) {

@@ -7,10 +7,10 @@ use Rattle.trial.proofs.run.Statement.{statement}
 use Rattle.trial.proofs.run.Tie as tie
 
 abbrev Inv-loop : tie.InvT-loop
-Inv-loop text₀ words₀ job₀ lent₀ digest₀ turns₀ text words job lent digest turns = (length text ≡ length text₀) × (length words ≡ length words₀)
+Inv-loop text₀ words₀ job₀ kept₀ lent₀ digest₀ turns₀ text words job kept lent digest turns = (length text ≡ length text₀) × (length words ≡ length words₀)
 
 abbrev μ-loop : tie.MeasureT-loop
-μ-loop text₀ words₀ job₀ lent₀ digest₀ turns₀ text words job lent digest turns = turns
+μ-loop text₀ words₀ job₀ kept₀ lent₀ digest₀ turns₀ text words job kept lent digest turns = turns
 
 no-job-requires : tie.Need-no-job-requires Inv-loop μ-loop
 no-job-requires c κs = search needs
@@ -33,6 +33,9 @@ same-length-2 c = search needs
 returns : tie.Need-returns Inv-loop μ-loop
 returns c = search needs
 
+keep-requires : tie.Need-keep-requires Inv-loop μ-loop
+keep-requires c κs = search needs
+
 prepare-requires : tie.Need-prepare-requires Inv-loop μ-loop
 prepare-requires c κs = search needs
 
@@ -46,7 +49,9 @@ loop-less : tie.Need-loop-less Inv-loop μ-loop
 loop-less c = search needs
 
 loop-again : tie.Need-loop-again Inv-loop μ-loop
-loop-again c = (search needs, search needs)
+loop-again c =
+    let inv = c .before .before .before .before .before .before .before .before .before .before .before .before .before .before .before .before .before .before .loop .inv in
+    (search (needs, inv .0), search (needs, inv .1))
 
 same-length-3 : tie.Need-same-length-3 Inv-loop μ-loop
 same-length-3 c = c .before .loop .inv .0
@@ -70,6 +75,7 @@ run-spec =
     same-length
     same-length-2
     returns
+    keep-requires
     prepare-requires
     call-requires
     sub-turns

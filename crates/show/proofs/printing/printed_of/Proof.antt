@@ -1,11 +1,22 @@
 -- The words and cuts that are lent are the first of those that stand ready.
-use mathlib.Core.Path.{_∙_}
+use Prim.Native.Nat.{ℕ, _+_, _*_, _-_, _/_, _≤_}
+use mathlib.Core.Path.{_≡_, _∙_}
+use mathlib.Core.List.{List}
 use native.Mathlib.Omega.{arith}
+use lib.ListN.{length, take}
 use Rattle.rules.specs.Layout.{widthOf, sizeOf}
-use Rattle.show.proofs.Inputs.{take-fits, zeros-long, multiples-long, lent}
+use Rattle.show.specs.Running.{multiples, cutsOf}
+use Rattle.show.specs.Printing.{zeros, printedIn, printedOf}
+use Rattle.show.proofs.Inputs.{take-multiples, take-zeros, take-fits, zeros-long, multiples-long}
 use borrow.Author.Needs.{needs}
 use Rattle.show.proofs.printing.printed_of.Statement.{statement}
 use Rattle.show.proofs.printing.printed_of.Tie as tie
+
+lent : (text path : List ℕ) → length text ≤ 16384 → {count size : ℕ} {words cuts : List ℕ} → count ≡ (length text - 1) / 1024 → size ≡ sizeOf 4 (length text) → words ≡ zeros 2560 → cuts ≡ multiples 15
+    → printedIn text (take size words) (take count cuts) path ≡ printedOf text path
+unfolding printedOf cutsOf sizeOf widthOf
+lent text path l ec es ew eu =
+    rw (ec, es, ew, eu, take-zeros (10 * ((length text + 63) / 64)) 2560 (omega arith), take-multiples ((length text - 1) / 1024) 15 (omega arith))
 
 cut-count-requires : tie.Need-cut-count-requires
 cut-count-requires c κs = search needs

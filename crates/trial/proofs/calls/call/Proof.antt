@@ -12,6 +12,9 @@ tell-end-requires c κs = search needs
 returns : tie.Need-returns
 returns c = search needs
 
+returns-2 : tie.Need-returns-2
+returns-2 c = search needs
+
 is-call-requires : tie.Need-is-call-requires
 is-call-requires c κs = search needs
 
@@ -36,11 +39,11 @@ lend-requires c κs = search needs
 same-length : tie.Need-same-length
 same-length c = search needs
 
-returns-2 : tie.Need-returns-2
-returns-2 c = search needs
-
 returns-3 : tie.Need-returns-3
 returns-3 c = search needs
+
+returns-4 : tie.Need-returns-4
+returns-4 c = search needs
 
 pub call-spec : {M : Type 1} → statement M
 call-spec =
@@ -48,6 +51,7 @@ call-spec =
     (tie.spec
     tell-end-requires
     returns
+    returns-2
     is-call-requires
     cut-requires
     cut-requires-2
@@ -56,5 +60,5 @@ call-spec =
     slice-aggregate-lend-2
     lend-requires
     same-length
-    returns-2
-    returns-3)
+    returns-3
+    returns-4)
