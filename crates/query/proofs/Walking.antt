@@ -14,7 +14,7 @@ use Rattle.query.specs.declared.items.Item.the-variants.{Found, Other, B
 use Rattle.paths.proofs.PlaceLaws.{first-at, first-all}
 use Rattle.query.proofs.Standing.{Standing, standing-zero, standing-low, standing-shift}
 
--- ---- the laws of `itemsIn`: another item goes on, one that is found or broken stops, and the last
+-- ---- the laws of `firstItemIn`: another item goes on, one that is found or broken stops, and the last
 
 after-keeps : (it r : Item) → (it ≡ Other → ⊥) → orElse it r ≡ it
 after-keeps (Found s t) r h = refl

@@ -3,7 +3,7 @@ ghost use Prim.Native.Nat.{_≤_};
 use crate::input::Head;
 use crate::input::read_bytes;
 use crate::input::read_cuts;
-use crate::lending::Lent;
+use crate::lending::Lengths;
 use crate::lending::cut;
 use crate::telling::digest_of;
 use crate::telling::tell;
@@ -147,7 +147,7 @@ pub fn call(
     job: Job,
     kept: Job,
     head: Head,
-    lent: Lent,
+    lent: Lengths,
     text: &[u8],
     words: &mut [u64],
     digest: &mut u64,

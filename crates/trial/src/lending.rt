@@ -3,14 +3,14 @@ ghost use Prim.Native.Nat.{_≤_};
 use crate::input::Head;
 use crate::input::read_bytes;
 
-// So many bytes and words.
-pub struct Lent {
+// So many bytes and words are lent.
+pub struct Lengths {
     pub n: usize,
     pub w: usize,
 }
 
-pub fn nothing() -> Lent {
-    Lent { n: 0, w: 0 }
+pub fn nothing() -> Lengths {
+    Lengths { n: 0, w: 0 }
 }
 
 // Fills so many words, or all, from a seed.
@@ -35,14 +35,14 @@ fn damage(at: usize, by: u64, words: &mut [u64]) {
 }
 
 // R: a record. W: words. D: a word damaged. Any other call: as it was.
-pub fn prepare(lent: Lent, head: Head, text: &mut [u8], words: &mut [u64]) -> Lent {
+pub fn prepare(lent: Lengths, head: Head, text: &mut [u8], words: &mut [u64]) -> Lengths {
     if head.letter == b'R' {
         let n = read_bytes(head.length, text);
-        return Lent { n: n, w: lent.w };
+        return Lengths { n: n, w: lent.w };
     }
     if head.letter == b'W' {
         let w = fill(head.length, head.value, words);
-        return Lent { n: lent.n, w: w };
+        return Lengths { n: lent.n, w: w };
     }
     if head.letter == b'D' {
         damage(head.length, head.value, words);

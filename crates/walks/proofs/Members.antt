@@ -94,7 +94,7 @@ filled-exactly byte a e h =
 module _ (quote : ℕ → Bool) (p q : ℕ) where
   pub quoted-exactly : (quoted quote p q ≡ true) ↔ Quoted quote p q
   unfolding quoted
-  quoted-exactly = (to, λ w. rw (lt-ltb (p + 1) q (w .long), w .opens, eq-eqb (firstAt quote (p + 1) q + 1) q (closed w)))
+  quoted-exactly = (to, λ w. rw (lt-ltb (p + 1) q (w .long), w .opens, eq-eqb (firstAt quote (p + 1) q + 1) q (ends-at w)))
     where
       to : (ltb (p + 1) q && (quote p && eqb (firstAt quote (p + 1) q + 1) q)) ≡ true → Quoted quote p q
       to e =
@@ -110,8 +110,8 @@ module _ (quote : ℕ → Bool) (p q : ℕ) where
             closes = ap quote (sym c) ∙ first-hit quote (p + 1) q (omega arith) (omega arith);
           }
 
-      closed : Quoted quote p q → firstAt quote (p + 1) q + 1 ≡ q
-      closed w = let l = w .long in omega (arith, first-at quote (p + 1) (q - 1) q (omega arith) (omega arith) (w .inner) (w .closes))
+      ends-at : Quoted quote p q → firstAt quote (p + 1) q + 1 ≡ q
+      ends-at w = let l = w .long in omega (arith, first-at quote (p + 1) (q - 1) q (omega arith) (omega arith) (w .inner) (w .closes))
 
 module _ (byte : ℕ → ℕ) (bits : Bits) (k : ℕ) (n : List ℕ) (s f : ℕ) where
   first-colon : s ≤ f → firstAt (bits .colon k) s f < f → FirstPlace (bits .colon k) s f (firstAt (bits .colon k) s f)

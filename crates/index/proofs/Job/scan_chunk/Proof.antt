@@ -51,7 +51,7 @@ unfolding sweptOf
 kept-of-requires c κs = let a = c .before .before .before .before .before .before .before .before .before .args in
     let s = c .before .before .before .before .before .before .span .result in
     subst (Small 16777216) (sym (ap (λ (x : Swept). x .swing) (c .before .before .before .before .scan-words .ensures .0)))
-    (small-swing _ (a .text .now) (a .words .now) (a .t1 .levels) (s .from) (s .to) (rw (c .before .before .before .before .before .before .span .ensures) (lent-chunk (a .t1) (a .text .now) (a .words .now) (a .k) (c .before .before .before .before .before .before .before .before .before .pre))))
+    (small-swing _ (a .text .now) (a .words .now) (a .t1 .levels) _ (s .to) (rw (c .before .before .before .before .before .before .span .ensures) (lent-chunk (a .t1) (a .text .now) (a .words .now) (a .k) (c .before .before .before .before .before .before .before .before .before .pre))))
 
 mul-c : tie.Need-mul-c
 mul-c c = search needs
