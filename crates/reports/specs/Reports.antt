@@ -66,8 +66,8 @@ unfolding right
 allRight [] = true
 allRight (r ∷ rs) = right r && allRight rs
 
-pub table : List Report
-table =
+pub rows : List Report
+rows =
     -- 1: {"a":":,"}
     (record {
       text = 123 ∷ 34 ∷ 97 ∷ 34 ∷ 58 ∷ 34 ∷ 58 ∷ 44 ∷ 34 ∷ 125 ∷ [];
@@ -133,6 +133,6 @@ table =
     (record { text = 123 ∷ 93 ∷ []; levels = 1; verdict = sound; words = []; paths = [] }) ∷
     []
 
-pub reports : T (allRight table)
-unfolding allRight table odd count word wordAt bit is has runBefore escaped quoteBit inString maskBit plain opener closer atDepth levelBit closesNone opensOver atEnd faultFrom faultOf widthOf sizeOf row bitmapOf address cell bitIn bitOf listed laid index byteIn firstIn firstAt pastLastIn pastLast isBlank valueAt same quoted keyed itemAt firstItemIn firstItem itemNo isDigit isHead isTail decimal stepAt readFrom readPath large framed filled nameStep numberStep walkFrom walk answerOf
+pub reports : T (allRight rows)
+unfolding allRight rows odd count word wordAt bit is has runBefore escaped quoteBit inString maskBit plain opener closer atDepth levelBit closesNone opensOver atEnd faultFrom faultOf widthOf sizeOf row bitmapOf address cell bitIn bitOf listed laid index byteIn firstIn firstAt pastLastIn pastLast isBlank valueAt same quoted keyed itemAt firstItemIn firstItem itemNo isDigit isHead isTail decimal stepAt readFrom readPath large framed filled nameStep numberStep walkFrom walk answerOf
 reports = tt
