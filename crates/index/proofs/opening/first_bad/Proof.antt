@@ -6,6 +6,7 @@ use mathlib.Core.List.{List}
 use Prim.Native.Nat.{ℕ, _≤_, _<_, _-_}
 use native.Mathlib.Nat.{sub-zero}
 use native.Mathlib.Numerals.{add-one}
+use native.Mathlib.Omega.{arith}
 use lib.ListN.{length}
 use Rattle.index.specs.Opening.{badCut, first, firstBad}
 use Rattle.index.proofs.OpenLaws.{cutBefore, first-hit, first-miss, first-end, bad-part, bad-late, bad-low, good-cut}
@@ -43,7 +44,7 @@ returns c =
 returns-2 : tie.Need-returns-2 Inv-loop μ-loop
 returns-2 c =
     let t = c .before .before .before in let l = t .before .loop in let a = t .before .before .args in
-    found (a .n) (a .cuts .now) (l .i) (t .loop-test .taken) (l .inv .2) (bad-late (a .n) (a .cuts .now) (l .i) (c .if2 .taken))
+    found (a .n) (a .cuts .now) (l .i) (t .loop-test .taken) (l .inv .2) (bad-late (a .n) (a .cuts .now) (l .i) (omega arith))
 
 returns-3 : tie.Need-returns-3 Inv-loop μ-loop
 returns-3 c =
