@@ -233,19 +233,20 @@ module _ {text : List ℕ} {levels : ℕ} {h : Held} (r : Reached text levels h)
 
 -- ---- every run can be brought to a close
 
-run-more : (text : List ℕ) (cs : List Call) (c : Call) (h : Held) → run text (cs ++ (c ∷ [])) h ≡ act text c (run text cs h)
+pub run-append : (text : List ℕ) (cs ds : List Call) (h : Held) → run text (cs ++ ds) h ≡ run text ds (run text cs h)
 unfolding run
-run-more text [] c h = refl
-run-more text (d ∷ cs) c h = run-more text cs c (act text d h)
+run-append text [] ds h = refl
+run-append text (c ∷ cs) ds h = run-append text cs ds (act text c h)
 
 pub reach-more : {text : List ℕ} {levels : ℕ} {h : Held} (c : Call) → Reached text levels h → Reached text levels (act text c h)
+unfolding run
 reach-more {text} {levels} {h} c r =
     record {
       cuts = r .cuts;
       words = r .words;
       calls = r .calls ++ (c ∷ []);
       accepted = r .accepted;
-      leads = run-more text (r .calls) c (start text levels (r .cuts) (r .words)) ∙ ap (act text c) (r .leads);
+      leads = run-append text (r .calls) (c ∷ []) (start text levels (r .cuts) (r .words)) ∙ ap (act text c) (r .leads);
     }
 
 -- settle closes no job

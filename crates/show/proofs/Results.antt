@@ -13,11 +13,14 @@ use Rattle.index.specs.declared.Answer.the-variants.{Done}
 use Rattle.index.specs.Opening.{badCut, first, firstBad, opening}
 use Rattle.index.proofs.OpenLaws.{cutBefore, good-cut, if-opened}
 use Rattle.query.specs.Answers.{answerOf}
+use Rattle.runs.specs.Runs.{ClosedRun}
+use Rattle.runs.specs.Whole.{plainly}
 use Rattle.runs.proofs.Theorems.{sound-closes, faulty-closes}
-use Rattle.show.specs.Running.{multiples, cutsOf}
+use Rattle.runs.proofs.Whole.{whole-run}
+use Rattle.runs.proofs.Plain.{plain-complete}
+use Rattle.show.specs.Running.{multiples, cutsOf, jobAnswer, jobWords}
 use Rattle.show.specs.Printing.{pathEnd, pathOf, recordOf, placed, queryPrinted, printedIn, zeros, printedOf, shown}
 use Rattle.show.proofs.Inputs.{multiples-long, zeros-long, both}
-use Rattle.show.proofs.Whole.{job-run}
 
 -- ---- the cuts and words that are lent open a job
 
@@ -51,18 +54,27 @@ opens n some few =
 -- ---- the line of a record, and of an input
 
 module _ (text path : List ℕ) (some : 1 ≤ length text) (few : length text ≤ 16384) where
+  abbrev cuts : List ℕ
+  cuts = cutsOf (length text)
+
+  abbrev words : List ℕ
+  words = zeros (sizeOf 4 (length text))
+
+  whole : ClosedRun text 4 (jobAnswer text words cuts) (jobWords text words cuts)
+  whole = whole-run text 4 cuts words (plainly (length cuts + 1)) (opens (length text) some few) (plain-complete (length cuts + 1))
+
   -- "a fault of the record is printed and not the path's refusal": its number, and its place twice
   pub line-faulty : {n p : ℕ} → faultOf text ≡ faulty n p → printedOf text path ≡ placed n p
   unfolding printedOf printedIn
   line-faulty e =
-      let c = faulty-closes e (job-run text (zeros (sizeOf 4 (length text))) (cutsOf (length text)) (opens (length text) some few)) in
+      let c = faulty-closes e whole in
       rw (c .1, c .2, c .3)
 
   -- over a sound record the line is the query's, over the index
   pub line-sound : faultOf text ≡ sound → printedOf text path ≡ queryPrinted (answerOf text (index text 4) 4 path)
   unfolding printedOf printedIn
   line-sound e =
-      let c = sound-closes e (job-run text (zeros (sizeOf 4 (length text))) (cutsOf (length text)) (opens (length text) some few)) in
+      let c = sound-closes e whole in
       rw (c .0, c .1)
 
 module _ (input : List ℕ) (short : pathEnd input ≤ 1024) (some : 1 ≤ length (recordOf input)) (few : length (recordOf input) ≤ 16384) where

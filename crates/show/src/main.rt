@@ -1,5 +1,4 @@
 // Reads a path, LF and a record, and prints the number, start and end of the part that the path selects.
-mod job;
 mod printing;
 
 fn print(line: printing::Printed) {

@@ -5,7 +5,6 @@ ghost use lib.ListN.{length};
 ghost use Rattle.query.specs.Answers.{answerOf, refusalNumber, refusalPlace};
 ghost use Rattle.show.specs.Running.{multiples};
 ghost use Rattle.show.specs.Printing as Printing;
-use crate::job::run_job;
 use index::Answer;
 use layout::size_of;
 use query::types::Refusal;
@@ -53,7 +52,7 @@ fn query_printed(text: &[u8], words: &[u64], path: &[u8]) -> Printed
 fn printed_in(text: &[u8], words: &mut [u64], cuts: &[usize], path: &[u8]) -> Printed
     ensures { λ r. ⌜ r ≡ Printing.printedIn (now (text .entry)) (now (words .entry)) (now (cuts .entry)) (now (path .entry)) ⌝ }
 {
-    let answer = run_job(text, words, cuts);
+    let answer = whole::plain(text, words, 4, cuts);
     let Answer::Done = answer else {
         return placed(answer.number(), answer.place());
     };

@@ -6,10 +6,10 @@ use native.Mathlib.Nat.{sub-zero}
 use lib.ListN.{length}
 use borrow.Author.Needs.{needs}
 use Rattle.runs.specs.Runs.{run}
-use Rattle.show.specs.Running.{held, finishes}
-use Rattle.show.proofs.Turns.{finish-turn, finishes-done}
-use Rattle.show.proofs.job.finish_all.Statement.{statement}
-use Rattle.show.proofs.job.finish_all.Tie as tie
+use Rattle.runs.specs.Whole.{held, finishes}
+use Rattle.whole.proofs.Turns.{finish-turn, finishes-done}
+use Rattle.whole.proofs.finish_all.Statement.{statement}
+use Rattle.whole.proofs.finish_all.Tie as tie
 
 abbrev Inv-loop : tie.InvT-loop
 Inv-loop text words₀ chunks j₀ k₀ words j k = (run text (finishes k (chunks - k)) (held j words) ≡ run text (finishes 0 chunks) (held j₀ words₀)) × (k ≤ chunks) × (length words ≡ length words₀)

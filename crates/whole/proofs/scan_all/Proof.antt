@@ -4,10 +4,10 @@ use native.Mathlib.Omega.{arith}
 use lib.ListN.{length}
 use borrow.Author.Needs.{needs}
 use Rattle.runs.specs.Runs.{run}
-use Rattle.show.specs.Running.{held, scans}
-use Rattle.show.proofs.Turns.{scan-turn, scans-done}
-use Rattle.show.proofs.job.scan_all.Statement.{statement}
-use Rattle.show.proofs.job.scan_all.Tie as tie
+use Rattle.runs.specs.Whole.{held, scans}
+use Rattle.whole.proofs.Turns.{scan-turn, scans-done}
+use Rattle.whole.proofs.scan_all.Statement.{statement}
+use Rattle.whole.proofs.scan_all.Tie as tie
 
 abbrev Inv-loop : tie.InvT-loop
 Inv-loop text words₀ chunks j₀ k₀ words j k = (run text (scans k) (held j words) ≡ run text (scans chunks) (held j₀ words₀)) × (length words ≡ length words₀)

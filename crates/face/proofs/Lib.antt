@@ -1,0 +1,3 @@
+-- What a foreign caller hears; no function needs it.
+pub mod Theorems
+pub mod Parts

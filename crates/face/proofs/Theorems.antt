@@ -1,0 +1,98 @@
+-- What a foreign caller hears of a record, by the record and the rules: a call is a whole run, and the theorems about those speak of it.
+use Prim.Native.Nat.{ℕ, _+_, _<_, _%_, _/_}
+use mathlib.Core.Path.{_≡_, refl, sym, ap, _∙_}
+use mathlib.Core.Bool.{Bool, true, false}
+use mathlib.Core.Logic.{_⊎_, inl, inr}
+use mathlib.Core.List.{List, [], _∷_}
+use lib.ListN.{length, replicate}
+use lib.Dec.{eqb}
+use Rattle.rules.specs.Word.{pick}
+use Rattle.rules.specs.Faults.{sound, faulty, faultOf}
+use Rattle.rules.specs.Layout.{sizeOf, index}
+use Rattle.index.specs.declared.Answer.{Answer}
+use Rattle.index.specs.declared.Answer.the-variants.{Done, Refused, Faulty}
+use Rattle.index.specs.declared.Refusal.the-variants.{Early}
+use Rattle.index.specs.Answers.{numberOf, placeOf, onDone}
+use Rattle.index.specs.Opening.{opening}
+use Rattle.runs.specs.Runs.{Call, scan, settle, level, ClosedRun}
+use Rattle.runs.specs.Whole.{wholeAnswer, wholeWords, plainly, noSteps, tally, stepsAlone, NoneLeftOut}
+use Rattle.runs.proofs.Theorems.{one-outcome}
+use Rattle.runs.proofs.Whole.{closed-or-early, whole-sound, whole-faulty}
+use Rattle.runs.proofs.Plain.{plain-complete}
+use Rattle.whole.specs.Calls.{callOf, callsOf}
+use Rattle.face.specs.Outcomes.{RunTells}
+
+-- a byte is a step, never a close
+bytes-steps : (calls : List ℕ) → stepsAlone (callsOf calls) ≡ true
+unfolding stepsAlone callsOf callOf
+bytes-steps [] = refl
+bytes-steps (c ∷ cs) = go (eqb (c % 4) 2) (eqb (c % 4) 3) (bytes-steps cs)
+  where
+    go : (a b : Bool) → stepsAlone (callsOf cs) ≡ true → stepsAlone (pick a (settle (c / 4)) (pick b (level (c / 4)) (scan (c / 4) (eqb (c % 4) 1))) ∷ callsOf cs) ≡ true
+    go true b e = e
+    go false true e = e
+    go false false e = e
+
+module _ (text words : List ℕ) (levels : ℕ) (cuts : List ℕ) where
+  module _ (calls : List Call) {number place : ℕ} {after : List ℕ} (tells : RunTells text words levels cuts calls number place after) where
+    -- a refused opening: its number and value, and the words unchanged
+    pub run-refused : (opening (length text) (length words) levels cuts ≡ Done → ⊥)
+        → (number ≡ numberOf (opening (length text) (length words) levels cuts)) × (place ≡ placeOf (opening (length text) (length words) levels cuts)) × (after ≡ words)
+    unfolding wholeAnswer wholeWords
+    run-refused n = (tells .number-is ∙ ap numberOf (kept _ _ _ n), tells .place-is ∙ ap placeOf (kept _ _ _ n), tells .words-are ∙ kept _ _ _ n)
+      where
+        kept : {A : Type 0} (a : Answer) (done other : A) → (a ≡ Done → ⊥) → onDone a done other ≡ other
+        kept Done d o n = absurd (n refl)
+        kept (Refused r) d o n = refl
+        kept (Faulty f) d o n = refl
+
+    module _ (accepted : opening (length text) (length words) levels cuts ≡ Done) (none : NoneLeftOut (length cuts + 1) calls) where
+      none-sound : faultOf text ≡ sound → (number ≡ 0) × (place ≡ 0) × (after ≡ index text levels)
+      none-sound s =
+          let w = whole-sound text levels cuts words calls accepted none s in
+          (tells .number-is ∙ ap numberOf (w .0), tells .place-is ∙ ap placeOf (w .0), tells .words-are ∙ w .1)
+
+      none-faulty : {n p : ℕ} → faultOf text ≡ faulty n p → (number ≡ n) × (place ≡ p) × (after ≡ replicate (sizeOf levels (length text)) 0)
+      none-faulty s =
+          let w = whole-faulty text levels cuts words calls accepted none s in
+          (tells .number-is ∙ w .0, tells .place-is ∙ w .1, tells .words-are ∙ w .2)
+
+  module _ (accepted : opening (length text) (length words) levels cuts ≡ Done) {number place : ℕ} {after : List ℕ} where
+    -- wararish_run, by calls that leave no step out
+    module _ (calls : List ℕ) (none : (k : ℕ) → k < length cuts + 1 → tally (callsOf calls) noSteps .levelled k ≡ true) (tells : RunTells text words levels cuts (callsOf calls) number place after) where
+      complete : NoneLeftOut (length cuts + 1) (callsOf calls)
+      complete = record { steps-alone = bytes-steps calls; all-levelled = none }
+
+      -- over a sound record: 0 and the index
+      pub run-sound : faultOf text ≡ sound → (number ≡ 0) × (place ≡ 0) × (after ≡ index text levels)
+      run-sound = none-sound (callsOf calls) tells accepted complete
+
+      -- over a faulty one: its first fault and zeros
+      pub run-faulty : {n p : ℕ} → faultOf text ≡ faulty n p → (number ≡ n) × (place ≡ p) × (after ≡ replicate (sizeOf levels (length text)) 0)
+      run-faulty = none-faulty (callsOf calls) tells accepted complete
+
+    -- wararish_index, which leaves none out
+    module _ (tells : RunTells text words levels cuts (plainly (length cuts + 1)) number place after) where
+      pub index-sound : faultOf text ≡ sound → (number ≡ 0) × (place ≡ 0) × (after ≡ index text levels)
+      index-sound = none-sound (plainly (length cuts + 1)) tells accepted (plain-complete (length cuts + 1))
+
+      pub index-faulty : {n p : ℕ} → faultOf text ≡ faulty n p → (number ≡ n) × (place ≡ p) × (after ≡ replicate (sizeOf levels (length text)) 0)
+      index-faulty = none-faulty (plainly (length cuts + 1)) tells accepted (plain-complete (length cuts + 1))
+
+-- any two calls of wararish_run over one record with as many levels: whatever the words were, the cuts, and the calls and their order, unless one is
+-- told 12 (its close was too early), both are told the same and leave the same words
+pub one-told : (text words also : List ℕ) (levels : ℕ) (cuts borders calls steps : List ℕ) {n m p q : ℕ} {after then : List ℕ}
+    → opening (length text) (length words) levels cuts ≡ Done → opening (length text) (length also) levels borders ≡ Done
+    → RunTells text words levels cuts (callsOf calls) n p after → RunTells text also levels borders (callsOf steps) m q then
+    → (n ≡ 12 → ⊥) → (m ≡ 12 → ⊥) → (n ≡ m) × (p ≡ q) × (after ≡ then)
+one-told text words also levels cuts borders calls steps {n} {m} {p} {q} {after} {then} a b t u i j =
+    go (closed-or-early text levels cuts words (callsOf calls) a (bytes-steps calls)) (closed-or-early text levels borders also (callsOf steps) b (bytes-steps steps))
+  where
+    go : ClosedRun text levels (wholeAnswer text words levels cuts (callsOf calls)) (wholeWords text words levels cuts (callsOf calls)) ⊎ (wholeAnswer text words levels cuts (callsOf calls) ≡ Refused Early)
+        → ClosedRun text levels (wholeAnswer text also levels borders (callsOf steps)) (wholeWords text also levels borders (callsOf steps)) ⊎ (wholeAnswer text also levels borders (callsOf steps) ≡ Refused Early)
+        → (n ≡ m) × (p ≡ q) × (after ≡ then)
+    go (inl c) (inl d) =
+        let e = one-outcome c d in
+        (t .number-is ∙ ap numberOf (e .0) ∙ sym (u .number-is), t .place-is ∙ ap placeOf (e .0) ∙ sym (u .place-is), t .words-are ∙ e .1 ∙ sym (u .words-are))
+    go (inl c) (inr e) = absurd (j (u .number-is ∙ ap numberOf e))
+    go (inr e) d = absurd (i (t .number-is ∙ ap numberOf e))

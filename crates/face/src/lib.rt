@@ -1,0 +1,58 @@
+// What a program in C or Rust calls: numbers and slices of numbers alone. (include/wararish.h tells C.)
+ghost use Prim.Native.Nat.{_+_};
+ghost use lib.ListN.{length};
+ghost use Rattle.runs.specs.Whole.{plainly};
+ghost use Rattle.whole.specs.Calls.{callsOf};
+ghost use Rattle.face.specs.Outcomes.{RunTells, QueryTells};
+
+// Opens a job, makes the calls in their order, a byte each, and closes it. Tells the number and place of the close, or of the
+// opening's refusal.
+#[no_mangle]
+pub extern "C" fn wararish_run(
+    text: &[u8],
+    words: &mut [u64],
+    levels: usize,
+    cuts: &[usize],
+    calls: &[u8],
+    place: &mut usize,
+) -> u64
+    ensures { λ r. ⌜ RunTells (now (text .entry)) (now (words .entry)) levels (now (cuts .entry)) (callsOf (now (calls .entry))) r (now (place .exit)) (now (words .exit)) ⌝ }
+{
+    let answer = whole::run(text, words, levels, cuts, calls);
+    *place = answer.place();
+    answer.number()
+}
+
+// The plain case: every chunk scanned with the guess 'outside', then each settled and levelled.
+#[no_mangle]
+pub extern "C" fn wararish_index(
+    text: &[u8],
+    words: &mut [u64],
+    levels: usize,
+    cuts: &[usize],
+    place: &mut usize,
+) -> u64
+    ensures { λ r. ⌜ RunTells (now (text .entry)) (now (words .entry)) levels (now (cuts .entry)) (plainly (length (now (cuts .entry)) + 1)) r (now (place .exit)) (now (words .exit)) ⌝ }
+{
+    let answer = whole::plain(text, words, levels, cuts);
+    *place = answer.place();
+    answer.number()
+}
+
+// The part that a path selects, as its place and its size: a foreign caller makes the slice of it.
+#[no_mangle]
+pub extern "C" fn wararish_query(
+    text: &[u8],
+    words: &[u64],
+    levels: usize,
+    path: &[u8],
+    place: &mut usize,
+    size: &mut usize,
+) -> u64
+    ensures { λ r. ⌜ QueryTells (now (text .entry)) (now (words .entry)) levels (now (path .entry)) r (now (place .exit)) (now (size .exit)) ⌝ }
+{
+    let mut number = 0;
+    let part = query::query(text, words, levels, path, &mut number, place);
+    *size = part.len();
+    number
+}
