@@ -1,5 +1,5 @@
 -- The plain order leaves no step out: behind the scans every chunk is scanned, and then each is settled and levelled in its turn.
-use Prim.Native.Nat.{ℕ, zero, suc, _+_, _≤_, _<_}
+use Prim.Native.Nat.{ℕ, zero, suc, _+_, _<_}
 use mathlib.Core.Path.{_≡_, refl, sym, ap, ap₂, _∙_, subst}
 use mathlib.Core.Bool.{Bool, true, false, _&&_, _||_}
 use mathlib.Core.Logic.{_⊎_, inl, inr}
@@ -8,7 +8,6 @@ use native.Mathlib.Decide.{ℕ-discrete}
 use native.Mathlib.Omega.{arith}
 use lib.Dec.{eqb}
 use borrow.Author.Tests.{eq-eqb}
-use Rattle.rules.proofs.Booleans.{impossible}
 use Rattle.runs.specs.Runs.{Call, scan, settle, level, close}
 use Rattle.runs.specs.Whole.{scans, finishes, plainly, Tally, noSteps, settleInTime, andNow, tally, stepsAlone, NoneLeftOut}
 
@@ -93,5 +92,5 @@ plain-complete m =
       steps-alone = scans-steps m (finishes 0 m) (finishes-steps 0 m);
       all-levelled = λ i l. ap (λ (t : Tally). t .levelled i) (tally-append (scans m) (finishes 0 m) noSteps)
           ∙ finishes-tally m m 0 (tally (scans m) noSteps) (omega arith)
-          (record { all-scanned = λ x b. scans-tally m noSteps x (inl b); some-settled = λ x b. absurd (omega arith); some-levelled = λ x b. absurd (omega arith) }) i l;
+          (record { all-scanned = λ x b. scans-tally m noSteps x (inl b); some-settled = λ x b. absurd (omega arith); some-levelled = λ x b. absurd (omega arith) }) i (omega arith);
     }

@@ -1,10 +1,10 @@
 -- Calls that leave no step out do all that there is to do: behind them the job is stopped or every chunk is levelled, so that its close ends
 -- it. The job follows the tally: what a chunk has had by the tally it has had in the job.
-use Prim.Native.Nat.{ℕ, zero, suc, _+_, _≤_, _<_}
+use Prim.Native.Nat.{ℕ, zero, suc, _+_, _<_}
 use mathlib.Core.Path.{_≡_, refl, sym, ap, _∙_, subst}
 use mathlib.Core.Bool.{Bool, true, false, _&&_, _||_}
 use mathlib.Core.Logic.{_⊎_, inl, inr}
-use mathlib.Core.List.{List, [], _∷_, _++_}
+use mathlib.Core.List.{List, [], _∷_}
 use native.Mathlib.Omega.{arith}
 use lib.ListN.{length, replicate}
 use lib.Dec.{eqb}
@@ -27,7 +27,7 @@ use Rattle.runs.specs.Whole.{wholeAnswer, wholeWords, Tally, noSteps, se
 use Rattle.runs.proofs.Spans.{Shape, count-is}
 use Rattle.runs.proofs.Theorems.{good, lengths-exactly, sound-closes, faulty-closes}
 use Rattle.runs.proofs.Progress.{every-all, settle-live, then-closes, stopped-closes, reach-more}
-use Rattle.runs.proofs.Had.{Keeps, scan-keeps, settle-keeps, level-keeps, scan-state, level-state, settle-stopped, scan-had, settle-had, level-had}
+use Rattle.runs.proofs.Had.{scan-keeps, settle-keeps, level-keeps, scan-state, level-state, settle-stopped, scan-had, settle-had, level-had}
 use Rattle.runs.proofs.Steps.{both}
 
 open-live : {s : State} → s ≡ Open → s ≡ Closed → ⊥
