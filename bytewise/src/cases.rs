@@ -63,7 +63,7 @@ fn runs(random: &mut Random) -> Vec<Case> {
             }
             let mut record = vec![b' '; end - run - 2];
             record.extend_from_slice(b"[\"");
-            record.extend(std::iter::repeat(b'\\').take(run));
+            record.resize(record.len() + run, b'\\');
             record.extend_from_slice(b"\",1,\"x\",2]");
             let cuts = if border > 1024 && random.chance(1, 2) { vec![1024, border] } else { vec![border] };
             list.push(plain(&record, 1, &cuts, random.next(), &["$[1]"]));
@@ -343,7 +343,7 @@ pub fn inputs(seed: u64, count: usize) -> Vec<Vec<u8>> {
         if feed {
             input.push(b'\n');
         }
-        input.extend(std::iter::repeat(b'1').take(record));
+        input.resize(input.len() + record, b'1');
         input
     };
     for path in [1, 4, 1021, 1022, 1023, 1024, 1025, 1026, 3000] {

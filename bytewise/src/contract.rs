@@ -167,7 +167,7 @@ impl Job {
 
     /// The conditions of 7 to 12; the first that holds refuses.
     fn refused(&self, step: Step, record: &[u8], words: &[u64], k: usize) -> Option<u64> {
-        let before = k == 0 || self.chunks.get(k - 1).map_or(false, |c| c.settled);
+        let before = k == 0 || self.chunks.get(k - 1).is_some_and(|c| c.settled);
         let (taken, ready) = match (self.chunks.get(k), step) {
             (None, _) => (false, false),
             (Some(c), Step::Scan) => (c.scanned, true),

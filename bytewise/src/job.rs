@@ -48,7 +48,7 @@ fn open_refusal(n: usize, size: usize, levels: usize, cuts: &[usize]) -> Option<
     if n > 16_777_216 {
         return Some((2, 0));
     }
-    if levels < 1 || levels > 16 {
+    if !(1..=16).contains(&levels) {
         return Some((3, 0));
     }
     if size != (2 + 2 * levels) * width(n) {

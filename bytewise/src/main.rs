@@ -7,18 +7,7 @@
 //!                                                    above the limit, too
 //!   bytewise inputs SEED COUNT FOLDER                writes inputs for `show`, N.input, and its lines, N.line
 
-mod case;
-mod cases;
-mod contract;
-mod handed;
-mod job;
-mod path;
-mod random;
-mod records;
-mod reports;
-mod rules;
-mod strays;
-
+use bytewise::{cases, path, reports};
 use std::fs::File;
 use std::io::{BufWriter, Write};
 

@@ -153,7 +153,7 @@ pub fn query(record: &[u8], words: &[u64], levels: usize, path: &[u8]) -> Found 
     if n > 16_777_216 {
         return refused(2);
     }
-    if levels < 1 || levels > 16 {
+    if !(1..=16).contains(&levels) {
         return refused(3);
     }
     if words.len() != (2 + 2 * levels) * width(n) {

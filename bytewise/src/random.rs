@@ -9,6 +9,8 @@ impl Random {
         Random { state: seed }
     }
 
+    // it never ends, so an iterator's `next` would say too little
+    #[allow(clippy::should_implement_trait)]
     pub fn next(&mut self) -> u64 {
         self.state = self.state.wrapping_add(0x9E37_79B9_7F4A_7C15);
         let mut z = self.state;

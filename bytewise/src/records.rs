@@ -148,11 +148,11 @@ pub fn deep(random: &mut Random, depth: usize, extra: i64) -> Text {
     let gap = random.below(4);
     for _ in 0..depth {
         bytes.push(*random.pick(b"[{"));
-        bytes.extend(std::iter::repeat(b' ').take(random.below(gap + 1)));
+        bytes.resize(bytes.len() + random.below(gap + 1), b' ');
     }
     for _ in 0..(depth as i64 + extra).max(0) {
         bytes.push(*random.pick(b"]}"));
-        bytes.extend(std::iter::repeat(b' ').take(random.below(gap + 1)));
+        bytes.resize(bytes.len() + random.below(gap + 1), b' ');
     }
     Text { bytes, paths: vec![b"$".to_vec(), b"$[0][0]".to_vec()] }
 }

@@ -1,23 +1,29 @@
 -- What a foreign caller hears of a record, by the record and the rules: a call is a whole run, and the theorems about those speak of it.
-use Prim.Native.Nat.{ℕ, _+_, _<_, _%_, _/_}
-use mathlib.Core.Path.{_≡_, refl, sym, ap, _∙_}
-use mathlib.Core.Bool.{Bool, true, false}
+use Prim.Native.Nat.{ℕ, _+_, _≤_, _<_, _%_, _/_}
+use mathlib.Core.Path.{_≡_, refl, sym, ap, _∙_, subst}
+use mathlib.Core.Bool.{Bool, true, false, _&&_}
 use mathlib.Core.Logic.{_⊎_, inl, inr}
 use mathlib.Core.List.{List, [], _∷_}
+use native.Mathlib.Omega.{arith}
 use lib.ListN.{length, replicate}
-use lib.Dec.{eqb}
+use lib.Dec.{eqb, leb}
+use borrow.Author.Tests.{leb-true}
 use Rattle.rules.specs.Word.{pick}
 use Rattle.rules.specs.Faults.{sound, faulty, faultOf}
 use Rattle.rules.specs.Layout.{sizeOf, index}
+use Rattle.rules.proofs.Booleans.{impossible}
 use Rattle.index.specs.declared.Answer.{Answer}
 use Rattle.index.specs.declared.Answer.the-variants.{Done, Refused, Faulty}
+use Rattle.index.specs.declared.Fault.{Fault}
+use Rattle.index.specs.declared.Fault.the-variants.{Closer, Opener, InString, InBracket}
 use Rattle.index.specs.declared.Refusal.the-variants.{Early}
-use Rattle.index.specs.Answers.{numberOf, placeOf, onDone}
-use Rattle.index.specs.Opening.{opening}
-use Rattle.runs.specs.Runs.{Call, scan, settle, level, ClosedRun}
+use Rattle.index.specs.Answers.{faultNumber, refusalNumber, numberOf, placeOf, Check, checked, onDone}
+use Rattle.index.specs.Opening.{openChecks, opening}
+use Rattle.runs.specs.Runs.{Call, scan, settle, level, Ends, ClosedRun}
 use Rattle.runs.specs.Whole.{wholeAnswer, wholeWords, plainly, noSteps, tally, stepsAlone, NoneLeftOut}
+use Rattle.runs.proofs.Steps.{both}
 use Rattle.runs.proofs.Theorems.{one-outcome}
-use Rattle.runs.proofs.Whole.{closed-or-early, whole-sound, whole-faulty}
+use Rattle.runs.proofs.Whole.{closed-or-early, whole-run, whole-sound, whole-faulty}
 use Rattle.runs.proofs.Plain.{plain-complete}
 use Rattle.whole.specs.Calls.{callOf, callsOf}
 use Rattle.face.specs.Outcomes.{RunTells}
@@ -78,6 +84,75 @@ module _ (text words : List ℕ) (levels : ℕ) (cuts : List ℕ) where
 
       pub index-faulty : {n p : ℕ} → faultOf text ≡ faulty n p → (number ≡ n) × (place ≡ p) × (after ≡ replicate (sizeOf levels (length text)) 0)
       index-faulty = none-faulty (plainly (length cuts + 1)) tells accepted (plain-complete (length cuts + 1))
+
+-- ---- which numbers there are
+
+lows : List Check → Bool
+lows [] = true
+lows (c ∷ later) = leb (refusalNumber (c .1)) 6 && lows later
+
+checked-low : (cs : List Check) → lows cs ≡ true → numberOf (checked cs Done) ≤ 6
+unfolding lows
+checked-low [] t = omega arith
+checked-low (c ∷ later) t =
+    let two = both (leb (refusalNumber (c .1)) 6) (lows later) t in
+    go (c .0) (leb-true _ _ (two .0)) (checked-low later (two .1))
+  where
+    go : (b : Bool) → refusalNumber (c .1) ≤ 6 → numberOf (checked later Done) ≤ 6 → numberOf (pick b (Refused (c .1)) (checked later Done)) ≤ 6
+    go true p q = p
+    go false p q = q
+
+opening-low : (n w levels : ℕ) (cuts : List ℕ) → numberOf (opening n w levels cuts) ≤ 6
+unfolding lows opening openChecks
+opening-low n w levels cuts = checked-low (openChecks n w levels cuts) refl
+
+fault-numbers : (f : Fault) → (13 ≤ faultNumber f) × (faultNumber f ≤ 16)
+fault-numbers (Closer p) = (omega arith, omega arith)
+fault-numbers (Opener p) = (omega arith, omega arith)
+fault-numbers (InString p) = (omega arith, omega arith)
+fault-numbers (InBracket p) = (omega arith, omega arith)
+
+ends-numbers : {a : Answer} → Ends a → (numberOf a ≤ 6) ⊎ ((13 ≤ numberOf a) × (numberOf a ≤ 16))
+ends-numbers Ends.done = inl (omega arith)
+ends-numbers (Ends.fault f) = inr (fault-numbers f)
+
+module _ (text words : List ℕ) (levels : ℕ) (cuts : List ℕ) (calls : List Call) {number place : ℕ} {after : List ℕ} (tells : RunTells text words levels cuts calls number place after) where
+  -- by the opening's answer
+  by-opening : {High : Type 0} → (opening (length text) (length words) levels cuts ≡ Done → (number ≤ 6) ⊎ High) → (number ≤ 6) ⊎ High
+  unfolding wholeAnswer
+  by-opening {High} accepted = go (opening (length text) (length words) levels cuts) refl
+    where
+      refused : (opening (length text) (length words) levels cuts ≡ Done → ⊥) → (number ≤ 6) ⊎ High
+      refused n = inl (omega (arith, run-refused text words levels cuts calls tells n .0, opening-low (length text) (length words) levels cuts))
+
+      go : (a : Answer) → opening (length text) (length words) levels cuts ≡ a → (number ≤ 6) ⊎ High
+      go Done e = accepted e
+      go (Refused r) e = refused (λ d. impossible (cc))
+      go (Faulty f) e = refused (λ d. impossible (cc))
+
+  -- of a run that was closed
+  by-end : ClosedRun text levels (wholeAnswer text words levels cuts calls) (wholeWords text words levels cuts calls) → (number ≤ 6) ⊎ ((13 ≤ number) × (number ≤ 16))
+  by-end c = subst (λ (n : ℕ). (n ≤ 6) ⊎ ((13 ≤ n) × (n ≤ 16))) (sym (tells .number-is)) (ends-numbers (c .ends))
+
+module _ (text words : List ℕ) (levels : ℕ) (cuts : List ℕ) {number place : ℕ} {after : List ℕ} where
+  -- wararish_run tells 0 to 6 or 12 to 16
+  pub run-numbers : (calls : List ℕ) → RunTells text words levels cuts (callsOf calls) number place after → (number ≤ 6) ⊎ ((12 ≤ number) × (number ≤ 16))
+  run-numbers calls tells = by-opening text words levels cuts (callsOf calls) tells (λ e. go (closed-or-early text levels cuts words (callsOf calls) e (bytes-steps calls)))
+    where
+      wider : (number ≤ 6) ⊎ ((13 ≤ number) × (number ≤ 16)) → (number ≤ 6) ⊎ ((12 ≤ number) × (number ≤ 16))
+      wider (inl l) = inl l
+      wider (inr l) = inr (omega arith, l .1)
+
+      go : ClosedRun text levels (wholeAnswer text words levels cuts (callsOf calls)) (wholeWords text words levels cuts (callsOf calls)) ⊎ (wholeAnswer text words levels cuts (callsOf calls) ≡ Refused Early)
+          → (number ≤ 6) ⊎ ((12 ≤ number) × (number ≤ 16))
+      go (inl c) = wider (by-end text words levels cuts (callsOf calls) tells c)
+      go (inr e) = let twelve = tells .number-is ∙ ap numberOf e in inr (omega (arith, twelve), omega (arith, twelve))
+
+  -- wararish_index never 12
+  pub index-numbers : RunTells text words levels cuts (plainly (length cuts + 1)) number place after → (number ≤ 6) ⊎ ((13 ≤ number) × (number ≤ 16))
+  index-numbers tells =
+      let m = length cuts + 1 in
+      by-opening text words levels cuts (plainly m) tells (λ e. by-end text words levels cuts (plainly m) tells (whole-run text levels cuts words (plainly m) e (plain-complete m)))
 
 -- any two calls of wararish_run over one record with as many levels: whatever the words were, the cuts, and the calls and their order, unless one is
 -- told 12 (its close was too early), both are told the same and leave the same words

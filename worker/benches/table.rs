@@ -1,0 +1,320 @@
+//! One table of ratios from one run: what an index, a query, a small job and a whole program cost, and beside what. Each
+//! contestant has one turn a round, and its cell is the smallest of its turns. Nothing here asserts a time.
+
+use std::cell::RefCell;
+use std::ffi::OsStr;
+use std::hint::black_box;
+use std::path::{Path, PathBuf};
+use std::process::Command;
+use std::time::{Duration, Instant};
+
+use bytewise::rules::{self, Bitmap};
+use wararish::sample::{self, Style};
+use wararish::{plan, words_needed, Call, Index, Report};
+
+const SIZE: usize = 16_777_216;
+const LEVELS: usize = 4;
+const ROUNDS: usize = 7;
+/// For a program that takes long.
+const FEW_ROUNDS: usize = 3;
+/// A short call is repeated until its turn has taken so long.
+const TURN: Duration = Duration::from_millis(5);
+
+const STYLES: [(&str, Style); 3] =
+    [("compact", Style::Compact), ("indented", Style::Indented), ("long strings", Style::Strings)];
+
+/// The rows of the index. The first is the one by which 'share' is told, the last the one by which 'faster' is.
+const INDEX_ROWS: &[(&str, Way)] = &[
+    ("one chunk", Way::Ours(1, Guesses::Right, Words::AsLeft)),
+    ("one chunk, wrong guess", Way::Ours(1, Guesses::Wrong, Words::AsLeft)),
+    ("eight chunks, right guesses", Way::Ours(8, Guesses::Right, Words::AsLeft)),
+    ("eight chunks, wrong guesses", Way::Ours(8, Guesses::Wrong, Words::AsLeft)),
+    ("one chunk, words cleared first", Way::Ours(1, Guesses::Right, Words::Cleared)),
+    ("one chunk, new words", Way::Ours(1, Guesses::Right, Words::New)),
+    ("bytewise, byte by byte", Way::Bytewise),
+];
+
+const SMALL_RECORD: &[u8; 64] = br#"{"reel":"R-0417","frames":[{"rate":2137},{"rate":890}],"held":0}"#;
+
+fn main() {
+    println!("Wararish on x86-64, one core: made reports of {SIZE} bytes, L = {LEVELS}.");
+    println!("Smallest of {ROUNDS} interleaved rounds; of {FEW_ROUNDS} for jq and Python.");
+    println!();
+    let columns = STYLES.map(|(name, style)| Column::new(name, style));
+    let compact = &columns[0];
+    let one_chunk = index_table(&columns);
+    query_table(compact, one_chunk);
+    job_table();
+    program_table(compact);
+}
+
+/// How an index comes about.
+#[derive(Clone, Copy)]
+enum Way {
+    Ours(usize, Guesses, Words),
+    Bytewise,
+}
+
+#[derive(Clone, Copy, PartialEq)]
+enum Guesses {
+    Right,
+    Wrong,
+}
+
+#[derive(Clone, Copy, PartialEq)]
+enum Words {
+    /// Lent as the turn before left them.
+    AsLeft,
+    /// The clearing is part of the turn.
+    Cleared,
+    /// Allocated in the turn, as bytewise allocates its own.
+    New,
+}
+
+/// A made report, and the words that bytewise has for it.
+struct Column {
+    name: &'static str,
+    style: Style,
+    record: Vec<u8>,
+    words: Vec<u64>,
+}
+
+impl Column {
+    fn new(name: &'static str, style: Style) -> Column {
+        let record = sample::report(style, SIZE);
+        let (fault, words) = rules::index(&record, LEVELS);
+        assert_eq!(fault, None, "a made report is sound");
+        Column { name, style, record, words }
+    }
+
+    fn last_frame(&self) -> usize {
+        sample::frames(self.style, SIZE) - 1
+    }
+
+    /// Whether a chunk that begins here begins inside a string.
+    fn inside(&self, border: usize) -> bool {
+        rules::get_bit(&self.words, self.record.len(), Bitmap::Mask, border)
+    }
+}
+
+/// The cuts and calls of a job.
+struct Plan {
+    cuts: Vec<usize>,
+    calls: Vec<Call>,
+}
+
+impl Plan {
+    /// Even chunks: scan all, each with the guess for its border, then settle and level one after another.
+    fn new(n: usize, chunks: usize, guess: impl Fn(usize) -> bool) -> Plan {
+        let cuts = plan::even_cuts(n, chunks - 1);
+        let borders = std::iter::once(0).chain(cuts.iter().copied());
+        let scans = borders.enumerate().map(|(k, border)| Call::scan(k, guess(border)));
+        let calls = scans.chain((0..chunks).flat_map(|k| [Call::settle(k), Call::level(k)])).collect();
+        Plan { cuts, calls }
+    }
+
+    fn one_chunk(n: usize) -> Plan {
+        Plan::new(n, 1, |_| false)
+    }
+
+    fn index<'r>(&self, record: &'r [u8], words: Vec<u64>) -> Index<'r> {
+        Report::new(record).index_in(words, LEVELS, &self.cuts, &self.calls).expect("the record is sound")
+    }
+}
+
+/// Has a turn in each of its rounds; a turn tells what it took.
+struct Contestant<'a> {
+    rounds: usize,
+    turn: Box<dyn FnMut() -> Duration + 'a>,
+}
+
+impl<'a> Contestant<'a> {
+    fn new(rounds: usize, turn: impl FnMut() -> Duration + 'a) -> Contestant<'a> {
+        Contestant { rounds, turn: Box::new(turn) }
+    }
+
+    /// Of many calls, what one takes. The clock is read rarely: reading it takes as long as a short call.
+    fn short(mut call: impl FnMut() + 'a) -> Contestant<'a> {
+        Contestant::new(ROUNDS, move || {
+            let start = Instant::now();
+            let mut calls = 0;
+            while start.elapsed() < TURN {
+                (0..64).for_each(|_| call());
+                calls += 64;
+            }
+            start.elapsed() / calls
+        })
+    }
+}
+
+/// The smallest turn of each.
+fn race(mut contestants: Vec<Contestant>) -> Vec<Duration> {
+    let mut smallest = vec![Duration::MAX; contestants.len()];
+    for round in 0..ROUNDS {
+        for (contestant, smallest) in contestants.iter_mut().zip(&mut smallest) {
+            if round < contestant.rounds {
+                *smallest = (*smallest).min((contestant.turn)());
+            }
+        }
+    }
+    smallest
+}
+
+fn timed<T>(work: impl FnOnce() -> T) -> (Duration, T) {
+    let start = Instant::now();
+    let result = work();
+    (start.elapsed(), result)
+}
+
+/// Gives what the first row takes in the first column.
+fn index_table(columns: &[Column]) -> Duration {
+    let lent = RefCell::new(vec![0; words_needed(LEVELS, SIZE)]);
+    let cells = INDEX_ROWS.iter().flat_map(|&(_, way)| columns.iter().map(move |column| (column, way)));
+    let smallest = race(cells.map(|(column, way)| index_contestant(column, way, &lent)).collect());
+    let rows: Vec<&[Duration]> = smallest.chunks(columns.len()).collect();
+    let (first, last) = (rows[0], rows[rows.len() - 1]);
+    print_head("", &columns.iter().flat_map(|column| ["", "", column.name]).collect::<Vec<_>>());
+    print_head("index of a report", &["ms", "faster", "share"].repeat(columns.len()));
+    for ((name, _), row) in INDEX_ROWS.iter().zip(&rows) {
+        let cells = row.iter().zip(first).zip(last).flat_map(|((&took, &first), &last)| {
+            [format!("{:.2}", ms(took)), format!("{:.1}", ratio(last, took)), format!("{:.2}", ratio(took, first))]
+        });
+        print_row(name, &cells.collect::<Vec<_>>());
+    }
+    println!("faster: bytewise's time by this one; share: this time by that of one chunk.");
+    println!("Words are lent as the turn before left them, unless the row says otherwise; bytewise allocates its own.");
+    first[0]
+}
+
+fn index_contestant<'a>(column: &'a Column, way: Way, lent: &'a RefCell<Vec<u64>>) -> Contestant<'a> {
+    let Way::Ours(chunks, guesses, words) = way else {
+        return Contestant::new(ROUNDS, || timed(|| rules::index(black_box(&column.record), LEVELS)).0);
+    };
+    let plan = Plan::new(SIZE, chunks, |border| column.inside(border) == (guesses == Guesses::Right));
+    let index = plan.index(&column.record, lent.take());
+    assert!(index.words() == column.words, "{chunks} chunks give other words than bytewise");
+    lent.replace(index.into_words());
+    Contestant::new(ROUNDS, move || {
+        let mut taken = if words == Words::New { Vec::new() } else { lent.take() };
+        let (took, index) = timed(|| {
+            if words == Words::Cleared {
+                taken.fill(0);
+            }
+            plan.index(&column.record, taken)
+        });
+        lent.replace(index.into_words());
+        took
+    })
+}
+
+fn query_table(column: &Column, one_chunk: Duration) {
+    let index = Plan::one_chunk(SIZE).index(&column.record, vec![0; words_needed(LEVELS, SIZE)]);
+    let last = column.last_frame();
+    let paths = [0, last / 2, last].map(|frame| format!("$.frames[{frame}].tiles[0]"));
+    let ask = |path: &String| {
+        black_box(index.ask(black_box(path.as_bytes())).expect("a made report has this frame"));
+    };
+    let smallest = race(paths.iter().map(|path| Contestant::short(|| ask(path))).collect());
+    println!();
+    print_head("query in the compact report", &["us", "share"]);
+    for (path, took) in paths.iter().zip(smallest) {
+        print_row(path, &[format!("{:.2}", 1000.0 * ms(took)), format!("{:.6}", ratio(took, one_chunk))]);
+    }
+    println!("share: this time by that of the index of one chunk.");
+}
+
+fn job_table() {
+    let plan = Plan::one_chunk(SMALL_RECORD.len());
+    let mut words = vec![0; words_needed(LEVELS, SMALL_RECORD.len())];
+    let job = Contestant::short(move || {
+        words = plan.index(black_box(SMALL_RECORD), std::mem::take(&mut words)).into_words();
+    });
+    let smallest = race(vec![job]);
+    println!();
+    print_head("small job", &["ns"]);
+    print_row("64 bytes, one chunk", &[smallest[0].as_nanos().to_string()]);
+}
+
+/// A program that is asked the same about the same file, the first ours. No command: it is not installed.
+struct Program {
+    name: &'static str,
+    rounds: usize,
+    command: Option<Vec<String>>,
+}
+
+fn programs(file: &Path, frame: usize) -> Vec<Program> {
+    let words = |list: &[&str]| list.iter().map(|&word| word.to_owned()).chain([file.display().to_string()]).collect();
+    let question = format!(".frames[{frame}].tiles[0].rate");
+    let ours = words(&[env!("CARGO_BIN_EXE_wararish"), "ask", &format!("${question}")]);
+    let jq = said(&["jq", "--version"]).map(|_| words(&["jq", &question]));
+    let value = format!("json.load(open(sys.argv[1]))['frames'][{frame}]['tiles'][0]['rate']");
+    let script = format!("import json, sys; print({value})");
+    // the interpreter itself, since `python3` may be a script that looks for it
+    let interpreter = said(&["python3", "-c", "import json, sys; print(sys.executable)"]);
+    let python = interpreter.map(|python| words(&[&python, "-c", &script]));
+    vec![
+        Program { name: "wararish ask", rounds: ROUNDS, command: Some(ours) },
+        Program { name: "jq", rounds: FEW_ROUNDS, command: jq },
+        Program { name: "Python's json", rounds: FEW_ROUNDS, command: python },
+    ]
+}
+
+/// What a command writes, if it is installed and ends well.
+fn said(command: &[impl AsRef<OsStr>]) -> Option<String> {
+    let output = Command::new(&command[0]).args(&command[1..]).output().ok()?;
+    output.status.success().then(|| String::from_utf8_lossy(&output.stdout).trim().to_owned())
+}
+
+/// Its turn, in which it must give the answer.
+fn program_contestant<'a>(program: &'a Program, answer: &'a str) -> Contestant<'a> {
+    Contestant::new(program.rounds, move || {
+        let Some(command) = &program.command else { return Duration::MAX };
+        let (took, given) = timed(|| said(command));
+        assert_eq!(given.as_deref(), Some(answer), "{}", program.name);
+        took
+    })
+}
+
+fn program_table(column: &Column) {
+    let file = Passing(Path::new(env!("CARGO_TARGET_TMPDIR")).join(format!("table-{}.json", std::process::id())));
+    std::fs::write(&file.0, &column.record).expect("cargo's folder for such files can be written to");
+    let programs = programs(&file.0, column.last_frame() / 2);
+    let answer = programs[0].command.as_deref().and_then(said).expect("wararish answers");
+    let smallest = race(programs.iter().map(|program| program_contestant(program, &answer)).collect());
+    println!();
+    print_head("whole program, one question", &["ms", "times"]);
+    for (program, &took) in programs.iter().zip(&smallest) {
+        if program.command.is_some() {
+            print_row(program.name, &[format!("{:.1}", ms(took)), format!("{:.1}", ratio(took, smallest[0]))]);
+        } else {
+            println!("{:<32}  not installed", program.name);
+        }
+    }
+    println!("times: this time by that of wararish; the file is in the system's cache.");
+}
+
+/// A file that goes when its value does.
+struct Passing(PathBuf);
+
+impl Drop for Passing {
+    fn drop(&mut self) {
+        let _ = std::fs::remove_file(&self.0);
+    }
+}
+
+fn print_head(name: &str, heads: &[&str]) {
+    print_row(name, &heads.iter().map(|&head| head.to_owned()).collect::<Vec<_>>());
+}
+
+fn print_row(name: &str, cells: &[String]) {
+    let cells: String = cells.iter().map(|cell| format!("{cell:>10}")).collect();
+    println!("{name:<32}{cells}");
+}
+
+fn ratio(a: Duration, b: Duration) -> f64 {
+    a.as_secs_f64() / b.as_secs_f64()
+}
+
+fn ms(took: Duration) -> f64 {
+    1000.0 * took.as_secs_f64()
+}

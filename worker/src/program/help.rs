@@ -1,0 +1,65 @@
+//! What `--help` prints.
+
+pub const PROGRAM: &str = "\
+usage: wararish ask [--where] [--json] PATH.. FILE     ask a report for paths
+       wararish index [OPTIONS] FILE                   index a report: verdict, digest, speed
+       wararish sample [OPTIONS]                       write a made report, to try
+       wararish COMMAND --help                         more about a command
+       wararish --version
+
+FILE is a JSON report of up to 16,777,216 bytes; - is standard input.
+
+Exit status: 0 found or sound; 1 a path finds nothing; 2 the record has a fault or a broken
+item, is empty or too long; 64 wrong use; 66 the file cannot be read; 74 the results cannot be
+written.
+";
+
+pub const ASK: &str = "\
+usage: wararish ask [--where] [--json] PATH.. FILE
+
+Prints the part of the record that each path leads to, a line each. The line of a path that
+finds nothing is empty, and a message tells why. PATH is $, then steps .name or [number]:
+'$.frames[7].tiles[0].rate'. FILE - is standard input.
+
+  --where    number, start and end of each part instead, end not included; 0 is found
+  --json     an object for each path instead, a line each
+  --         what follows is no option
+
+Exit status: 0 all found; 1 a path finds nothing (23 to 26); 2 the record has a fault (13 to 16)
+or a broken item (27), is empty (1) or too long (2); 64 wrong use, and paths that are none (20 to
+22); 66 the file cannot be read. Of several, the greatest.
+
+  printf '{\"a\":1,\"b\":[2,30]}' | wararish ask '$.b[1]' -
+";
+
+pub const INDEX: &str = "\
+usage: wararish index [OPTIONS] FILE
+
+Indexes the report in FILE (- is standard input) and prints its verdict, the SHA-256 of the
+index, the time and the speed. The same report and levels give the same digest, whatever the
+cuts, the guesses and the order.
+
+  --levels L                        1 to 16 (4)
+  --cuts N                          N even cuts, 0 to 63, fewer where the record is short (0)
+  --cuts-at A,B,..                  cuts at these bytes, multiples of 64
+  --guess outside|inside|random     what is guessed of each chunk's beginning (outside)
+  --order forward|backward|random   the order of the steps (forward)
+  --seed S                          what random draws from (1)
+  --json                            one object instead of lines
+  --                                what follows is no option
+
+Exit status: 0 sound; 2 the record has a fault (13 to 16), is empty (1) or too long (2); 64 wrong
+use, and levels or cuts that are refused (3, 5, 6); 66 the file cannot be read.
+";
+
+pub const SAMPLE: &str = "\
+usage: wararish sample [OPTIONS]
+
+Writes a made report of exactly so many bytes to standard output. The same options give the same
+bytes.
+
+  --style compact|indented|strings   strings: long ones, with escapes (compact)
+  --size BYTES                       512 to 1,073,741,824 (16777216, the longest for an index)
+
+  wararish sample | wararish index -
+";

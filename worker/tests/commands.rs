@@ -1,0 +1,513 @@
+//! The program: every command, every exit status, every message with a place.
+
+use std::collections::HashSet;
+use std::ffi::{OsStr, OsString};
+use std::fs::{self, File};
+use std::io::{Read, Write};
+use std::os::unix::ffi::OsStringExt;
+use std::path::PathBuf;
+use std::process::{Command, Stdio};
+
+use bytewise::cases::text;
+use bytewise::path::line;
+use bytewise::random::Random;
+use bytewise::records;
+
+const PROGRAM: &str = env!("CARGO_BIN_EXE_wararish");
+const LIMIT: usize = 16_777_216;
+const RECORD: &[u8] = br#"{"a":[1,2],"b":{"c":3}}"#;
+
+/// Exit status, standard output, standard error.
+type Ended = (i32, String, String);
+
+fn ended(status: i32, out: &str, said: &str) -> Ended {
+    (status, out.into(), said.into())
+}
+
+fn run_bytes(words: &[impl AsRef<OsStr>], input: &[u8]) -> (i32, Vec<u8>, String) {
+    let mut child = Command::new(PROGRAM)
+        .args(words)
+        .stdin(Stdio::piped())
+        .stdout(Stdio::piped())
+        .stderr(Stdio::piped())
+        .spawn()
+        .unwrap();
+    // the program may have read enough before all is written
+    let _ = child.stdin.take().unwrap().write_all(input);
+    let output = child.wait_with_output().unwrap();
+    (output.status.code().unwrap(), output.stdout, String::from_utf8(output.stderr).unwrap())
+}
+
+fn run(words: &[&str], input: &[u8]) -> Ended {
+    let (status, out, said) = run_bytes(words, input);
+    (status, String::from_utf8(out).unwrap(), said)
+}
+
+/// A file of its own for each test, removed at the end.
+struct Room(PathBuf);
+
+impl Room {
+    fn new(name: &str) -> Room {
+        let path = std::env::temp_dir().join(format!("wararish-{}-{name}", std::process::id()));
+        fs::create_dir(&path).unwrap();
+        Room(path)
+    }
+
+    fn path(&self, name: &str) -> String {
+        self.0.join(name).to_str().unwrap().into()
+    }
+
+    fn file(&self, name: &str, bytes: &[u8]) -> String {
+        fs::write(self.0.join(name), bytes).unwrap();
+        self.path(name)
+    }
+}
+
+impl Drop for Room {
+    fn drop(&mut self) {
+        let _ = fs::remove_dir_all(&self.0);
+    }
+}
+
+#[test]
+fn ask_prints_the_value() {
+    let room = Room::new("value");
+    let file = room.file("report", br#"{"a":1,"b":[2,30]}"#);
+    assert_eq!(run(&["ask", "$.b[1]", &file], b""), ended(0, "30\n", ""));
+    assert_eq!(run(&["ask", "$", "-"], b" [1,\n2] \n"), ended(0, "[1,\n2]\n", ""));
+}
+
+#[test]
+fn ask_takes_several_paths_a_line_each() {
+    let said = "wararish: $.c: no such name (25)\nwararish: $.a[2]: no such number (26)\n";
+    let paths = ["ask", "$.a[1]", "$.c", "$.b.c", "$.a[2]", "-"];
+    assert_eq!(run(&paths, RECORD), ended(1, "2\n\n3\n\n", said));
+    assert_eq!(run(&["ask", "$.a[0]", "$.a", "-"], RECORD), ended(0, "1\n[1,2]\n", ""));
+}
+
+#[test]
+fn ask_tells_each_miss_and_the_broken_item() {
+    let one = |path, record: &[u8]| run(&["ask", path, "-"], record);
+    let object = "wararish: $.a.x: a name is asked of what is not an object (23)\n";
+    assert_eq!(one("$.a.x", RECORD), ended(1, "\n", object));
+    let array = "wararish: $[0]: a number is asked of what is not an array (24)\n";
+    assert_eq!(one("$[0]", RECORD), ended(1, "\n", array));
+    let broken = "wararish: $[1]: a broken item: no name and colon where one belongs, or no value (27)\n";
+    assert_eq!(one("$[1]", b"[1,]"), ended(2, "\n", broken));
+    assert_eq!(one("$[0]", b" \n").0, 2, "blank all through");
+}
+
+#[test]
+fn ask_refuses_what_is_no_path() {
+    let one = |path: &str| run(&["ask", path, "-"], RECORD);
+    let leading = "wararish: $.a[01]: this is no path, from byte 5 of it on (20)\n  $.a[01]\n       ^\n";
+    assert_eq!(one("$.a[01]"), ended(64, "\n", leading));
+    let short = "wararish: $.: this is no path, from byte 2 of it on (20)\n  $.\n    ^\n";
+    assert_eq!(one("$."), ended(64, "\n", short));
+    assert_eq!(one(""), ended(64, "\n", "wararish: : this is no path, from byte 0 of it on (20)\n  \n  ^\n"));
+    let large = "the path is above 1,024 bytes, or a number in it above 16,777,215 (21)\n";
+    assert_eq!(one("$[16777216]"), ended(64, "\n", &format!("wararish: $[16777216]: {large}")));
+    let long = format!("${}", ".abc".repeat(256));
+    assert_eq!(one(&long), ended(64, "\n", &format!("wararish: {}..: {large}", &long[..58])));
+}
+
+#[test]
+fn a_long_path_is_shown_around_its_place() {
+    let path = format!("${}![0]{}", "[0]".repeat(15), ".abcdefgh".repeat(9));
+    let (status, out, said) = run(&["ask", "--where", &path, "-"], RECORD);
+    assert_eq!((status, out.as_str()), (64, "20 46 46\n"));
+    let window = format!("\n  {}\n  {}^\n", &path[16..76], " ".repeat(30));
+    assert!(said.ends_with(&window), "{said}");
+}
+
+#[test]
+fn sixteen_steps_are_the_most() {
+    let record = [vec![b'['; 17], b"7".to_vec(), vec![b']'; 17]].concat();
+    let path = |steps| format!("${}", "[0]".repeat(steps));
+    assert_eq!(run(&["ask", &path(16), "-"], &record), ended(0, "[7]\n", ""));
+    let (status, out, said) = run(&["ask", &path(17), "-"], &record);
+    assert_eq!((status, out.as_str()), (64, "\n"));
+    assert_eq!(said, format!("wararish: {}: the path has more steps than the index has levels (22)\n", path(17)));
+}
+
+#[test]
+fn ask_where_prints_the_showing_programs_lines() {
+    let paths = ["$", "$.b.c", "$.a[1]", "$.c", "$.a.x", "$[0]", "$.a[2]", "$.a[01]", "$."];
+    let lines = "0 0 23\n0 20 21\n0 8 9\n25 0 0\n23 0 0\n24 0 0\n26 0 0\n20 5 5\n20 2 2\n";
+    let words = [&["ask", "--where"], &paths[..], &["-"]].concat();
+    let (status, out, said) = run(&words, RECORD);
+    assert_eq!((status, out.as_str(), said.matches("wararish: ").count()), (64, lines, 6));
+    let (status, out, _) = run(&["ask", "--where", "$", "$.", "-"], b"[[");
+    assert_eq!((status, out.as_str()), (2, "16 2 2\n16 2 2\n"), "a fault goes before the path's refusal");
+    assert_eq!(run(&["ask", "--where", "$", "-"], b"").1, "1 0 0\n");
+}
+
+#[test]
+fn ask_where_agrees_with_bytewise_on_the_showing_program() {
+    let mut random = Random::new(21);
+    let mut numbers = HashSet::new();
+    for _ in 0..300 {
+        let text = text(&mut random);
+        let path = String::from_utf8(records::path(&mut random, &text.paths)).unwrap();
+        // the showing program has four levels, and looks at the path's length before the record
+        if path.len() > 1024 || path.matches(['.', '[']).count() > 4 {
+            continue;
+        }
+        let line = line(&[path.as_bytes(), b"\n", &text.bytes].concat());
+        let out = run(&["ask", "--where", &path, "-"], &text.bytes).1;
+        assert_eq!(out, line, "{path} of {}", String::from_utf8_lossy(&text.bytes));
+        numbers.insert(line.split(' ').next().unwrap().to_owned());
+    }
+    assert!(numbers.len() >= 8, "few kinds of answers: {numbers:?}");
+}
+
+#[test]
+fn ask_json_prints_an_object_a_line() {
+    let found = r#"{"path":"$[0]","number":0,"start":1,"end":7,"value":"\"a\\tb\"","message":"found"}"#;
+    let miss = r#"{"path":"$[4]","number":26,"start":0,"end":0,"value":null,"message":"no such number"}"#;
+    let none =
+        r#"{"path":"$[","number":20,"start":2,"end":2,"value":null,"message":"this is no path, from byte 2 of it on"}"#;
+    let (status, out, _) = run(&["ask", "--json", "$[0]", "$[4]", "$[", "-"], br#"["a\tb"]"#);
+    assert_eq!((status, out), (64, format!("{found}\n{miss}\n{none}\n")));
+    let raw = r#"{"path":"$[0]","number":0,"start":1,"end":4,"value":null,"message":"found"}"#;
+    assert_eq!(run(&["ask", "--json", "$[0]", "-"], b"[\"\xff\"]"), ended(0, &format!("{raw}\n"), ""));
+    let message = "a bracket is closed that was not opened, at byte 0";
+    let fault = format!(r#"{{"path":"$","number":13,"start":0,"end":0,"value":null,"message":"{message}"}}"#);
+    let (status, out, _) = run(&["ask", "--json", "$", "-"], b"]");
+    assert_eq!((status, out), (2, format!("{fault}\n")));
+}
+
+#[test]
+fn the_greatest_status_counts() {
+    let status = |paths: &[&str]| run(&[&["ask"], paths, &["-"]].concat(), b"[1,]").0;
+    assert_eq!(status(&["$[0]", "$[2]"]), 1);
+    assert_eq!(status(&["$[1]", "$[2]"]), 2);
+    assert_eq!(status(&["$[1]", "$[", "$[2]", "$[0]"]), 64);
+}
+
+/// The message about a record from standard input, by both commands that index it.
+fn fault_message(record: &[u8]) -> String {
+    let (status, out, said) = run(&["ask", "$", "-"], record);
+    assert_eq!((status, out.as_str()), (2, "\n"));
+    let (status, _, said_by_index) = run(&["index", "--cuts", "5", "--order", "backward", "-"], record);
+    assert_eq!((status, &said_by_index), (2, &said));
+    said
+}
+
+#[test]
+fn a_fault_is_shown_at_its_place() {
+    let input = "wararish: standard input: ";
+    let closed = "a bracket is closed that was not opened, at byte";
+    assert_eq!(fault_message(b"[1,2]]"), format!("{input}{closed} 5, line 1, column 6 (13)\n  [1,2]]\n       ^\n"));
+    assert_eq!(fault_message(b"[\n1]\n]\n"), format!("{input}{closed} 5, line 3, column 1 (13)\n  ]\n  ^\n"));
+    let accents = "[\"\u{e9}\t\"] ]x\r\n\"".as_bytes();
+    assert_eq!(
+        fault_message(accents),
+        format!("{input}{closed} 8, line 1, column 9 (13)\n  [\"...\"] ]x.\n          ^\n")
+    );
+    let deep = vec![b'['; 65];
+    let brackets = "[".repeat(31);
+    let opened = "a bracket is opened where 64 are open, at byte 64, line 1, column 65 (14)";
+    assert_eq!(fault_message(&deep), format!("{input}{opened}\n  {brackets}\n  {}^\n", " ".repeat(30)));
+}
+
+#[test]
+fn a_fault_at_the_end_is_shown_behind_the_last_byte() {
+    let input = "wararish: standard input: ";
+    let string = "a string is open at the end of the record, at byte";
+    assert_eq!(fault_message(b"[\"a"), format!("{input}{string} 3, line 1, column 4 (15)\n  [\"a\n     ^\n"));
+    let bracket = "a bracket is open at the end of the record, at byte";
+    assert_eq!(fault_message(b"[\n[1,\n"), format!("{input}{bracket} 6, line 2, column 5 (16)\n  [1,.\n      ^\n"));
+    let line = format!("{{\"a\":\"{}\"", "x".repeat(100));
+    let shown = format!("  {}\"\n  {}^\n", "x".repeat(29), " ".repeat(30));
+    assert_eq!(fault_message(line.as_bytes()), format!("{input}{bracket} 107, line 1, column 108 (16)\n{shown}"));
+}
+
+/// The lines of an index but time and speed, which are only looked at.
+fn index_lines(words: &[&str], record: &[u8]) -> (i32, String, String) {
+    let (status, out, said) = run(&[&["index"], words, &["-"]].concat(), record);
+    let lines: Vec<&str> = out.lines().collect();
+    assert_eq!(lines.len(), 8, "{out}{said}");
+    assert!(
+        lines[6].starts_with("time     ") && (lines[6].ends_with(" ms") || lines[6].ends_with(" s")),
+        "{}",
+        lines[6]
+    );
+    assert!(lines[7].starts_with("speed    ") && lines[7].ends_with(" MB/s"), "{}", lines[7]);
+    (status, lines[..6].join("\n"), said)
+}
+
+#[test]
+fn index_prints_verdict_and_digest() {
+    // of the words 298, 460, 16, 0
+    let digest = "594aad326de16a713ea966add50f6089c97b53cff98e320844842e782bf3cc75";
+    let lines = format!("bytes    10\nlevels   1\nchunks   1\nwords    4\nverdict  sound\ndigest   sha256 {digest}");
+    assert_eq!(index_lines(&["--levels", "1"], br#"{"a":":,"}"#), ended(0, &lines, ""));
+    // of ten words, all zero
+    let zero = "5b6fb58e61fa475939767d68a446f97f1bff02c0e5935a3ea8bb51e6515783d8";
+    let lines =
+        format!("bytes    5\nlevels   4\nchunks   1\nwords    10\nverdict  fault 13 at 2\ndigest   sha256 {zero}");
+    let closed = "a bracket is closed that was not opened, at byte 2, line 1, column 3 (13)";
+    let said = format!("wararish: standard input: {closed}\n  []][\"\n    ^\n");
+    assert_eq!(index_lines(&[], b"[]][\""), ended(2, &lines, &said));
+}
+
+#[test]
+fn index_json_prints_one_object() {
+    let (status, out, said) = run(&["index", "--json", "--levels=1", "-"], br#"{"a":":,"}"#);
+    let digest = "594aad326de16a713ea966add50f6089c97b53cff98e320844842e782bf3cc75";
+    let counts = r#"{"bytes":10,"levels":1,"chunks":1,"words":4,"number":0,"place":0"#;
+    let start = format!(r#"{counts},"verdict":"sound","digest":"sha256 {digest}","seconds":"#);
+    assert!(out.starts_with(&start) && out.contains(",\"bytes_per_second\":") && out.ends_with("}\n"), "{out}");
+    assert_eq!((status, said.as_str(), out.lines().count()), (0, "", 1));
+    let (status, out, said) = run(&["index", "--json", "-"], b"[");
+    assert!(out.contains(r#""number":16,"place":1,"verdict":"fault 16 at 1""#), "{out}");
+    assert_eq!((status, said.lines().count()), (2, 3));
+    let empty = r#"{"bytes":0,"levels":4,"chunks":1,"words":0,"number":1,"place":0,"verdict":"refused 1"}"#;
+    let said = "wararish: standard input: the record is empty (1)\n";
+    assert_eq!(run(&["index", "--json", "-"], b""), ended(2, &format!("{empty}\n"), said));
+}
+
+#[test]
+fn index_gives_one_digest_whatever_the_manner() {
+    let room = Room::new("manner");
+    let (_, report, _) = run_bytes(&["sample", "--style", "strings", "--size", "100000"], b"");
+    let file = room.file("report", &report);
+    let digest = |words: &[&str], chunks: &str| {
+        let (status, out, said) = run(&[&["index"], words, &[&file]].concat(), b"");
+        assert_eq!((status, said.as_str()), (0, ""));
+        assert!(out.contains(&format!("chunks   {chunks}\n")), "{out}");
+        out.lines().find(|line| line.starts_with("digest")).unwrap().to_owned()
+    };
+    let plain = digest(&[], "1");
+    for order in ["forward", "backward", "random"] {
+        for guess in ["outside", "inside", "random"] {
+            let words = ["--order", order, "--guess", guess, "--seed", "9"];
+            assert_eq!(digest(&[&words[..], &["--cuts", "63"]].concat(), "64"), plain);
+            assert_eq!(digest(&[&words[..], &["--cuts-at", "64,192,99968"]].concat(), "4"), plain);
+        }
+    }
+    assert_ne!(digest(&["--levels", "5"], "1"), plain);
+}
+
+#[test]
+fn even_cuts_are_as_many_as_have_room() {
+    let (_, lines, _) = index_lines(&["--cuts", "63"], &[b' '; 129]);
+    assert!(lines.contains("\nchunks   3\n"), "{lines}");
+}
+
+#[test]
+fn index_refuses_levels_and_cuts() {
+    let refused = |words: &[&str], why: &str| {
+        let said = format!("wararish: standard input: {why}\n");
+        assert_eq!(run(&[&["index"], words, &["-"]].concat(), &[b' '; 200]), ended(64, "", &said));
+    };
+    refused(&["--levels", "0"], "the levels are not 1 to 16 (3)");
+    refused(&["--levels", "17"], "the levels are not 1 to 16 (3)");
+    refused(&["--levels", "18446744073709551615"], "the levels are not 1 to 16 (3)");
+    let many = vec!["64"; 64].join(",");
+    refused(&["--cuts-at", &many], "there are more than 63 cuts (5)");
+    let cut = "is no multiple of 64 inside the record and above the cut before it (6)";
+    refused(&["--cuts-at", "64,65"], &format!("cut 1 (from 0) {cut}"));
+    refused(&["--cuts-at", "256"], &format!("cut 0 (from 0) {cut}"));
+}
+
+#[test]
+fn sample_makes_reports_of_a_size() {
+    for style in ["compact", "indented", "strings"] {
+        let (status, report, said) = run_bytes(&["sample", "--style", style, "--size", "3000"], b"");
+        assert_eq!((status, report.len(), said.as_str()), (0, 3000, ""));
+        assert_eq!(run(&["index", "-"], &report).0, 0);
+        assert_eq!(run(&["ask", "--where", "$.frames[0].tiles[0].rate", "-"], &report).0, 0);
+    }
+    let (_, indented, _) = run_bytes(&["sample", "--style", "indented", "--size", "600"], b"");
+    assert!(indented.starts_with(b"{\n  \"reel\""));
+    let (status, report, _) = run_bytes(&["sample"], b"");
+    assert_eq!((status, report.len()), (0, LIMIT));
+    let (status, out, _) = run(&["index", "--levels", "4", "--cuts", "7", "-"], &report);
+    assert!(status == 0 && out.contains("bytes    16777216\n") && out.contains("verdict  sound\n"), "{out}");
+}
+
+#[test]
+fn help_and_version_are_results() {
+    let help = |words: &[&str]| {
+        let (status, out, said) = run(words, b"");
+        assert_eq!((status, said.as_str()), (0, ""));
+        out
+    };
+    assert!(help(&["--help"]).starts_with("usage: wararish ask"));
+    assert_eq!(help(&["-h"]), help(&["--help"]));
+    for command in ["ask", "index", "sample"] {
+        assert!(help(&[command, "--help"]).starts_with(&format!("usage: wararish {command} ")));
+        assert_eq!(help(&[command, "x", "-h", "--nonsense"]), help(&[command, "--help"]));
+    }
+    assert_eq!(help(&["--version"]), format!("wararish {}\n", env!("CARGO_PKG_VERSION")));
+    let usage = help(&["--help"]);
+    assert_eq!(run(&[], b""), ended(64, "", &usage), "no arguments");
+}
+
+#[test]
+fn wrong_use_is_told() {
+    let wrong = |words: &[&str], why: &str| {
+        assert_eq!(run(words, RECORD), ended(64, "", &format!("wararish: {why}\n")), "{words:?}");
+    };
+    wrong(&["aks"], "there is no command 'aks'; wararish --help tells them");
+    wrong(&["--where"], "there is no command '--where'; wararish --help tells them");
+    wrong(&["ask"], "PATH and FILE are missing");
+    wrong(&["ask", "-"], "PATH or FILE is missing: wararish ask PATH.. FILE");
+    wrong(&["ask", "--were", "$", "-"], "there is no option --were here");
+    wrong(&["ask", "--where", "--json", "$", "-"], "--where and --json do not go together");
+    wrong(&["ask", "--where", "--where", "$", "-"], "--where is given twice");
+    wrong(&["ask", "--where=1", "$", "-"], "--where takes no value");
+    wrong(&["index"], "FILE is missing");
+    wrong(&["index", "-", "more"], "there is one FILE, so 'more' is too much");
+    wrong(&["index", "-", "--levels"], "--levels needs a value");
+    wrong(&["index", "--levels", "x", "-"], "--levels takes a number, 1 to 16, and not 'x'");
+    wrong(&["index", "--levels", "+1", "-"], "--levels takes a number, 1 to 16, and not '+1'");
+    wrong(&["index", "--cuts", "64", "-"], "--cuts takes a number, 0 to 63, and not '64'");
+    wrong(&["index", "--cuts-at", "64,", "-"], "--cuts-at takes numbers with commas between them, and not '64,'");
+    wrong(&["index", "--cuts", "1", "--cuts-at", "64", "-"], "--cuts and --cuts-at do not go together");
+    wrong(&["index", "--guess", "in", "-"], "--guess takes outside, inside or random, and not 'in'");
+    wrong(&["index", "--order=", "-"], "--order takes forward, backward or random, and not ''");
+    wrong(&["index", "--seed", "-1", "-"], "--seed takes a number, and not '-1'");
+    wrong(&["sample", "--size", "511"], "--size takes a number of bytes, 512 to 1,073,741,824, and not '511'");
+    wrong(&["sample", "--style", "nice"], "--style takes compact, indented or strings, and not 'nice'");
+    wrong(&["sample", "x"], "sample takes options only, and not 'x'");
+}
+
+#[test]
+fn two_dashes_end_the_options() {
+    let room = Room::new("dashes");
+    room.file("--json", RECORD);
+    let output = Command::new(PROGRAM).args(["ask", "--", "$.a[0]", "--json"]).current_dir(&room.0).output().unwrap();
+    assert_eq!((output.status.code(), output.stdout), (Some(0), b"1\n".to_vec()));
+    assert_eq!(run(&["ask", "$.a[0]", "-", "--where"], RECORD), ended(0, "0 6 7\n", ""), "options may stand last");
+}
+
+#[test]
+fn files_that_cannot_be_read() {
+    let room = Room::new("unread");
+    let (folder, missing) = (room.path(""), room.path("missing"));
+    for command in [&["ask", "$"][..], &["index"]] {
+        let read = |file: &str| run(&[command, &[file]].concat(), b"");
+        let directory = format!("wararish: {folder} cannot be read: it is a directory\n");
+        assert_eq!(read(&folder), ended(66, "", &directory));
+        let none = format!("wararish: {missing} cannot be read: No such file or directory (os error 2)\n");
+        assert_eq!(read(&missing), ended(66, "", &none));
+    }
+}
+
+#[test]
+fn empty_and_too_long_records() {
+    let room = Room::new("sizes");
+    let empty = room.file("empty", b"");
+    let said = format!("wararish: {empty}: the record is empty (1)\n");
+    assert_eq!(run(&["ask", "$", &empty], b""), ended(2, "\n", &said));
+    assert_eq!(run(&["index", &empty], b""), ended(2, "", &said));
+    assert_eq!(run(&["index", "-"], b""), ended(2, "", "wararish: standard input: the record is empty (1)\n"));
+
+    let mut report = [vec![b' '; LIMIT - 2], b"[]".to_vec()].concat();
+    let largest = room.file("largest", &report);
+    assert_eq!(run(&["ask", "--where", "$", &largest], b""), ended(0, "0 16777214 16777216\n", ""));
+    report.push(b' ');
+    let above = room.file("above", &report);
+    let said = |name: &str| format!("wararish: {name}: the record is above 16,777,216 bytes (2)\n");
+    assert_eq!(run(&["ask", "--where", "$", &above], b""), ended(2, "2 0 0\n", &said(&above)));
+    assert_eq!(run(&["index", "-"], &report), ended(2, "", &said("standard input")));
+    assert_eq!(run(&["index", "/dev/zero"], b""), ended(2, "", &said("/dev/zero")), "it has no end");
+}
+
+#[test]
+fn pipes_are_read_as_standard_input_is() {
+    assert_eq!(run(&["ask", "$.a[1]", "/dev/stdin"], RECORD), ended(0, "2\n", ""));
+    let room = Room::new("pipes");
+    let pipe = room.path("pipe");
+    assert!(Command::new("mkfifo").arg(&pipe).status().unwrap().success());
+    let writer = {
+        let pipe = pipe.clone();
+        std::thread::spawn(move || fs::write(pipe, RECORD).unwrap())
+    };
+    assert_eq!(run(&["ask", "$.b.c", &pipe], b""), ended(0, "3\n", ""));
+    writer.join().unwrap();
+}
+
+/// Runs the program with an output that is closed after its first bytes; gives the status and what was said.
+fn run_closed(words: &[&str]) -> (Option<i32>, String) {
+    let mut child = Command::new(PROGRAM).args(words).stdout(Stdio::piped()).stderr(Stdio::piped()).spawn().unwrap();
+    let mut out = child.stdout.take().unwrap();
+    out.read_exact(&mut [0; 3]).unwrap();
+    drop(out);
+    let output = child.wait_with_output().unwrap();
+    (output.status.code(), String::from_utf8(output.stderr).unwrap())
+}
+
+#[test]
+fn a_closed_output_ends_the_program_quietly() {
+    let room = Room::new("closed");
+    let (_, report, _) = run_bytes(&["sample", "--size", "1000000"], b"");
+    let file = room.file("report", &report);
+    for words in [&["sample"][..], &["ask", "$", &file], &["ask", "--json", "$", &file]] {
+        assert_eq!(run_closed(words), (Some(0), String::new()), "{words:?}");
+    }
+    let told = "wararish: $.x: no such name (25)\n".to_string();
+    assert_eq!(run_closed(&["ask", "$", "$.x", &file]), (Some(1), told), "the status stays");
+}
+
+#[test]
+fn an_output_that_is_full_is_told() {
+    let full = File::options().write(true).open("/dev/full").unwrap();
+    let output = Command::new(PROGRAM).arg("sample").stdout(full).output().unwrap();
+    let said = "wararish: the results cannot be written: No space left on device (os error 28)\n";
+    assert_eq!((output.status.code(), String::from_utf8(output.stderr).unwrap()), (Some(74), said.into()));
+}
+
+#[test]
+fn arguments_need_not_be_utf_8() {
+    let raw = |bytes: &[u8]| OsString::from_vec(bytes.to_vec());
+    let words = |list: &[&[u8]]| list.iter().map(|word| raw(word)).collect::<Vec<OsString>>();
+    let (status, _, said) = run_bytes(&words(&[b"ask", b"$.\xff", b"-"]), RECORD);
+    let none = "wararish: $..: this is no path, from byte 2 of it on (20)\n  $..\n    ^\n";
+    assert_eq!((status, said.as_str()), (64, none));
+    assert_eq!(run_bytes(&words(&[b"ask", b"$", b"/\xff"]), RECORD).0, 66);
+    let uses: [&[&[u8]]; 4] =
+        [&[b"\xff"], &[b"ask", b"--\xff", b"$", b"-"], &[b"index", b"--levels", b"\xff", b"-"], &[b"sample", b"\xff"]];
+    for list in uses {
+        let (status, out, said) = run_bytes(&words(list), RECORD);
+        assert_eq!((status, out.len(), said.lines().count()), (64, 0, 1), "{said}");
+    }
+    let json = run_bytes(&words(&[b"ask", b"--json", b"$\xff", b"-"]), RECORD).1;
+    assert!(String::from_utf8(json).unwrap().starts_with("{\"path\":\"$\u{fffd}\","));
+}
+
+/// What is seen on a terminal that runs a command, or nothing where there is no `script` to make one.
+fn on_a_terminal(command: &str) -> Option<String> {
+    let output = Command::new("script").args(["-qec", command, "/dev/null"]).stdin(Stdio::null()).output().ok()?;
+    Some(String::from_utf8(output.stdout).unwrap())
+}
+
+#[test]
+fn progress_is_shown_on_a_terminal_and_cleared() {
+    let slow = format!("(printf '[1'; sleep 3; printf ']') | {PROGRAM} ask '$[0]' -");
+    let Some(seen) = on_a_terminal(&slow) else {
+        return println!("left out: there is no command script");
+    };
+    assert!(seen.starts_with("\r\x1b[Kwararish: reading, "), "{seen:?}");
+    assert!(seen.contains("wararish: reading, 2 bytes, "), "{seen:?}");
+    assert!(seen.matches("\r\x1b[Kwararish: reading, ").count() > 1, "the line is rewritten: {seen:?}");
+    assert!(seen.ends_with(" s\r\x1b[K1\r\n"), "and cleared: {seen:?}");
+}
+
+#[test]
+fn no_progress_for_short_work() {
+    let quick = format!("printf '[1]' | {PROGRAM} ask '$[0]' -");
+    // a machine may be so busy that even this takes a second; not every time
+    let quiet = (0..5).map(|_| on_a_terminal(&quick)).any(|seen| seen.is_none_or(|seen| seen == "1\r\n"));
+    assert!(quiet, "progress is shown though there is none to tell");
+}
+
+#[test]
+fn no_progress_where_standard_error_is_no_terminal() {
+    let slow = format!("(printf '[1'; sleep 1.7; printf ']') | {PROGRAM} ask '$[0]' -");
+    let output = Command::new("sh").args(["-c", &slow]).output().unwrap();
+    assert_eq!((output.stdout, output.stderr), (b"1\n".to_vec(), Vec::new()));
+}

@@ -1,0 +1,66 @@
+//! Reports of 16 MiB: one digest, whatever the cuts, the guesses and the order.
+
+use std::collections::HashSet;
+
+use bytewise::rules;
+use wararish::plan::{self, Guesses, Order};
+use wararish::sample::{self, Style};
+use wararish::{digest, Report, LIMIT};
+
+const LEVELS: usize = 4;
+const ALL_GUESSES: [Guesses; 3] = [Guesses::Outside, Guesses::Inside, Guesses::Random];
+const ORDERS: [Order; 3] = [Order::Forward, Order::Backward, Order::Random];
+
+/// The digests of a record by every plan, in one buffer that is lent again and again.
+fn digests(record: &[u8], chunk_counts: &[usize]) -> HashSet<String> {
+    let mut words: Vec<u64> = Vec::new();
+    let mut digests = HashSet::new();
+    for &chunks in chunk_counts {
+        let cuts = plan::even_cuts(record.len(), chunks - 1);
+        assert_eq!(cuts.len(), chunks - 1);
+        for (seed, (guesses, order)) in ALL_GUESSES.iter().flat_map(|g| ORDERS.map(|o| (*g, o))).enumerate() {
+            let calls = plan::calls(chunks, guesses, order, seed as u64);
+            // what an earlier run left must not matter, nor what it was
+            words.iter_mut().for_each(|word| *word = !*word);
+            let index = Report::new(record).index_in(words, LEVELS, &cuts, &calls).unwrap();
+            digests.insert(digest::sha256(index.words()));
+            words = index.into_words();
+        }
+    }
+    digests
+}
+
+#[test]
+fn one_digest_for_every_plan() {
+    let record = sample::report(Style::Strings, LIMIT);
+    let (fault, words) = rules::index(&record, LEVELS);
+    assert_eq!(fault, None);
+    assert_eq!(digests(&record, &[1, 2, 7, 64]), HashSet::from([digest::sha256(&words)]));
+}
+
+#[test]
+fn the_words_of_bytewise_and_parts_of_the_record_itself() {
+    let record = sample::report(Style::Indented, LIMIT);
+    let index = Report::new(&record).index(LEVELS, &plan::even_cuts(LIMIT, 7)).unwrap();
+    assert!(index.words() == rules::index(&record, LEVELS).1, "other words than bytewise has");
+    let last = sample::frames(Style::Indented, LIMIT) - 1;
+    let part = index.ask(format!("$.frames[{last}].timecode").as_bytes()).unwrap();
+    let place = part.as_ptr() as usize - record.as_ptr() as usize;
+    assert!(record.as_ptr_range().contains(&part.as_ptr()), "the part lies in the record's own memory");
+    assert_eq!(&record[place..place + part.len()], part);
+    assert_eq!((part.len(), part[0], part[part.len() - 1]), (13, b'"', b'"'));
+    assert_eq!(index.ask(format!("$.frames[{}]", last + 1).as_bytes()).unwrap_err().number(), 26);
+}
+
+#[test]
+fn a_fault_in_the_last_byte_leaves_every_word_zero() {
+    let mut record = sample::report(Style::Compact, LIMIT);
+    record[LIMIT - 1] = b' ';
+    for chunks in [1, 64] {
+        let cuts = plan::even_cuts(LIMIT, chunks - 1);
+        let calls = plan::calls(chunks, Guesses::Random, Order::Random, 3);
+        let unindexed = Report::new(&record).index_in(Vec::new(), LEVELS, &cuts, &calls).unwrap_err();
+        assert_eq!((unindexed.error().number(), unindexed.error().place()), (16, LIMIT));
+        assert!(unindexed.words().len() == 10 * LIMIT / 64 && unindexed.words().iter().all(|&word| word == 0));
+    }
+}
