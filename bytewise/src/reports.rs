@@ -10,23 +10,23 @@ use crate::records::brackets;
 use crate::rules::{truth, width, Fault};
 
 /// A bitmap's name, its place among the bitmaps, and its words.
-type Words = &'static [(Bitmap, &'static [u64])];
-type Bitmap = (&'static str, usize);
-type Paths = &'static [(&'static str, Found)];
+pub type Words = &'static [(Bitmap, &'static [u64])];
+pub type Bitmap = (&'static str, usize);
+pub type Paths = &'static [(&'static str, Found)];
 
-struct Report {
-    name: &'static str,
-    record: Vec<u8>,
-    levels: usize,
-    cuts: &'static [usize],
+pub struct Report {
+    pub name: &'static str,
+    pub record: Vec<u8>,
+    pub levels: usize,
+    pub cuts: &'static [usize],
     /// None: accepted.
-    fault: Option<Fault>,
-    words: Words,
-    paths: Paths,
+    pub fault: Option<Fault>,
+    pub words: Words,
+    pub paths: Paths,
     /// Paths of which the document says nothing.
     also: &'static [&'static str],
     /// How many combinations of guesses are tried.
-    guesses: u64,
+    pub guesses: u64,
 }
 
 fn report(name: &'static str, record: &[u8]) -> Report {
@@ -110,6 +110,11 @@ impl Report {
         assert!(got == said, "report {}: {what} is {got:?}, and the document says {said:?}", self.name);
     }
 
+    /// One for each combination of guesses.
+    fn cases(&self) -> Vec<Case> {
+        (0..self.guesses).map(|guesses| self.case(guesses)).collect()
+    }
+
     fn case(&self, guesses: u64) -> Case {
         let mut case = Case::new();
         case.set_record(&self.record);
@@ -144,14 +149,22 @@ fn check_lines() {
 /// Every literal of the document.
 pub fn check() {
     check_lines();
-    cases();
-    for report in deepest() {
-        report.case(0);
+    for report in all() {
+        report.cases();
     }
 }
 
 /// The reports but 11, which stands in a list of depths.
+fn but_deepest() -> impl Iterator<Item = Report> {
+    words().into_iter().chain(paths()).chain(over_border()).chain(verdicts())
+}
+
+/// Every report.
+pub fn all() -> impl Iterator<Item = Report> {
+    but_deepest().chain(deepest())
+}
+
+/// As cases; those of 11 stand in that list.
 pub fn cases() -> Vec<Case> {
-    let all = words().into_iter().chain(paths()).chain(over_border()).chain(verdicts());
-    all.flat_map(|report| (0..report.guesses).map(|guesses| report.case(guesses)).collect::<Vec<Case>>()).collect()
+    but_deepest().flat_map(|report| report.cases()).collect()
 }

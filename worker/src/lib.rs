@@ -16,6 +16,7 @@ pub mod digest;
 pub mod errors;
 mod face;
 pub mod plan;
+mod random;
 pub mod report;
 pub mod sample;
 

@@ -1,6 +1,7 @@
 //! How a report is cut, and in which order with which guesses its chunks are stepped.
 
 use crate::calls::Call;
+use crate::random::Random;
 
 /// The most chunks that a report can be cut into.
 pub const CHUNKS: usize = 64;
@@ -34,7 +35,7 @@ pub fn even_cuts(n: usize, count: usize) -> Vec<usize> {
 /// Calls that leave out no step, each of which is accepted. Chunks above the 64th have none: no opening accepts them.
 pub fn calls(chunks: usize, guesses: Guesses, order: Order, seed: u64) -> Vec<Call> {
     let mut random = Random(seed);
-    let scans: Vec<Call> = (0..chunks.min(CHUNKS)).map(|k| Call::scan(k, random.guess(guesses))).collect();
+    let scans: Vec<Call> = (0..chunks.min(CHUNKS)).map(|k| Call::scan(k, guess(guesses, &mut random))).collect();
     match order {
         Order::Forward => forward(scans),
         Order::Backward => backward(scans),
@@ -83,29 +84,12 @@ fn drawn(scans: Vec<Call>, random: &mut Random) -> Vec<Call> {
     calls
 }
 
-/// Numbers from a seed (splitmix64).
-struct Random(u64);
-
-impl Random {
-    fn next(&mut self) -> u64 {
-        self.0 = self.0.wrapping_add(0x9E37_79B9_7F4A_7C15);
-        let mut z = self.0;
-        z = (z ^ (z >> 30)).wrapping_mul(0xBF58_476D_1CE4_E5B9);
-        z = (z ^ (z >> 27)).wrapping_mul(0x94D0_49BB_1331_11EB);
-        z ^ (z >> 31)
-    }
-
-    fn below(&mut self, m: usize) -> usize {
-        (self.next() % m as u64) as usize
-    }
-
-    /// Inside?
-    fn guess(&mut self, guesses: Guesses) -> bool {
-        match guesses {
-            Guesses::Outside => false,
-            Guesses::Inside => true,
-            Guesses::Random => self.below(2) == 1,
-        }
+/// Inside?
+fn guess(guesses: Guesses, random: &mut Random) -> bool {
+    match guesses {
+        Guesses::Outside => false,
+        Guesses::Inside => true,
+        Guesses::Random => random.below(2) == 1,
     }
 }
 

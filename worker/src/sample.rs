@@ -1,5 +1,7 @@
 //! Made reports of an exact size, as a mastering encoder would write them, for tests, measurements and trying.
 
+use crate::random::Random;
+
 /// No smaller report is made: what stands around the frames needs room.
 pub const SMALLEST: usize = 512;
 
@@ -19,8 +21,8 @@ pub enum Style {
     Strings,
 }
 
-/// A sound report in valid JSON, of exactly `size` bytes: as many frames as have room, and a note that takes the rest. The
-/// same style and size give the same bytes. A small report may have no frame.
+/// A sound report in valid JSON, of exactly `size` bytes: as many frames as have room, and a note that takes the rest.
+/// The same style and size give the same bytes. A small report may have no frame.
 ///
 /// # Panics
 /// Where `size` is below `SMALLEST`.
@@ -36,7 +38,7 @@ pub fn frames(style: Style, size: usize) -> usize {
 fn made(style: Style, size: usize) -> (Vec<u8>, usize) {
     assert!(size >= SMALLEST, "a made report has at least {SMALLEST} bytes, and not {size}");
     let mut pen = Pen::new(style == Style::Indented, size);
-    let mut draw = Draw(2024);
+    let mut draw = Random(2024);
     write_head(&mut pen);
     let mut count = 0;
     loop {
@@ -66,7 +68,7 @@ fn write_head(pen: &mut Pen) {
     pen.open(b'[');
 }
 
-fn write_frame(pen: &mut Pen, style: Style, number: usize, draw: &mut Draw) {
+fn write_frame(pen: &mut Pen, style: Style, number: usize, draw: &mut Random) {
     let (seconds, picture) = (number / 24, number % 24);
     let (hour, minute, second) = (1 + seconds / 3600, seconds / 60 % 60, seconds % 60);
     pen.item();
@@ -89,7 +91,7 @@ fn write_frame(pen: &mut Pen, style: Style, number: usize, draw: &mut Draw) {
     pen.close(b'}');
 }
 
-fn write_tile(pen: &mut Pen, draw: &mut Draw) {
+fn write_tile(pen: &mut Pen, draw: &mut Random) {
     pen.item();
     pen.open(b'{');
     pen.member("rate", &(1000 + draw.below(90_000)).to_string());
@@ -134,7 +136,7 @@ const PHRASES: [&str; 9] = [
     "motion is low, so the rate went to the sound, ",
 ];
 
-fn long_string(draw: &mut Draw) -> String {
+fn long_string(draw: &mut Random) -> String {
     let mut text = String::from("\"");
     while text.len() < LONG {
         text.push_str(PHRASES[draw.below(PHRASES.len())]);
@@ -210,19 +212,6 @@ impl Pen {
     fn member(&mut self, name: &str, value: &str) {
         self.name(name);
         self.raw(value);
-    }
-}
-
-/// Numbers that are the same each time (splitmix64).
-struct Draw(u64);
-
-impl Draw {
-    fn below(&mut self, limit: usize) -> usize {
-        self.0 = self.0.wrapping_add(0x9E37_79B9_7F4A_7C15);
-        let mut mixed = self.0;
-        mixed = (mixed ^ (mixed >> 30)).wrapping_mul(0xBF58_476D_1CE4_E5B9);
-        mixed = (mixed ^ (mixed >> 27)).wrapping_mul(0x94D0_49BB_1331_11EB);
-        ((mixed ^ (mixed >> 31)) % limit as u64) as usize
     }
 }
 

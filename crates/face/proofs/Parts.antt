@@ -1,6 +1,6 @@
 -- The part that a query tells a foreign caller by its place and size: it lies in the record, as a found part does.
 use Prim.Native.Nat.{ℕ, _+_, _-_, _≤_, _<_}
-use mathlib.Core.Path.{_≡_, _∙_}
+use mathlib.Core.Path.{_≡_, sym, _∙_}
 use mathlib.Core.List.{List}
 use native.Mathlib.Omega.{arith}
 use lib.ListN.{length, take, drop, length-drop}
@@ -26,6 +26,10 @@ refused-number NotArray = omega arith
 refused-number NoName = omega arith
 refused-number NoNumber = omega arith
 refused-number (Broken why) = omega arith
+
+-- the contract allows one outcome
+pub query-one : {text words path : List ℕ} {levels n m p q s z : ℕ} → QueryTells text words levels path n p s → QueryTells text words levels path m q z → (n ≡ m) × (p ≡ q) × (s ≡ z)
+query-one t u = (t .number-is ∙ sym (u .number-is), t .place-is ∙ sym (u .place-is), t .size-is ∙ sym (u .size-is))
 
 module _ (text words : List ℕ) (levels : ℕ) (path : List ℕ) {number place size : ℕ} (tells : QueryTells text words levels path number place size) where
   -- 0: so many bytes from the place on lie in the record, and are the part

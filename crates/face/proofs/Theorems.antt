@@ -39,6 +39,11 @@ bytes-steps (c ∷ cs) = go (eqb (c % 4) 2) (eqb (c % 4) 3) (bytes-steps cs)
     go false true e = e
     go false false e = e
 
+-- the contract allows one outcome
+pub run-one : {text words cuts after then : List ℕ} {levels n m p q : ℕ} {calls : List Call} → RunTells text words levels cuts calls n p after → RunTells text words levels cuts calls m q then
+    → (n ≡ m) × (p ≡ q) × (after ≡ then)
+run-one t u = (t .number-is ∙ sym (u .number-is), t .place-is ∙ sym (u .place-is), t .words-are ∙ sym (u .words-are))
+
 module _ (text words : List ℕ) (levels : ℕ) (cuts : List ℕ) where
   module _ (calls : List Call) {number place : ℕ} {after : List ℕ} (tells : RunTells text words levels cuts calls number place after) where
     -- a refused opening: its number and value, and the words unchanged
