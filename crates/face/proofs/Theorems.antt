@@ -2,7 +2,7 @@
 use Prim.Native.Nat.{ℕ, _+_, _≤_, _<_, _%_, _/_}
 use mathlib.Core.Path.{_≡_, refl, sym, ap, _∙_, subst}
 use mathlib.Core.Bool.{Bool, true, false, _&&_}
-use mathlib.Core.Logic.{_⊎_, inl, inr}
+use mathlib.Core.Logic.{_⊎_, inl, inr, _↔_}
 use mathlib.Core.List.{List, [], _∷_}
 use native.Mathlib.Omega.{arith}
 use lib.ListN.{length, replicate}
@@ -19,11 +19,12 @@ use Rattle.index.specs.declared.Fault.the-variants.{Closer, Opener, InString, I
 use Rattle.index.specs.declared.Refusal.the-variants.{Early}
 use Rattle.index.specs.Answers.{faultNumber, refusalNumber, numberOf, placeOf, Check, checked, onDone}
 use Rattle.index.specs.Opening.{openChecks, opening}
+use Rattle.index.proofs.AnswerLaws.{done-other}
 use Rattle.runs.specs.Runs.{Call, scan, settle, level, Ends, ClosedRun}
 use Rattle.runs.specs.Whole.{wholeAnswer, wholeWords, plainly, noSteps, tally, stepsAlone, NoneLeftOut}
 use Rattle.runs.proofs.Steps.{both}
-use Rattle.runs.proofs.Theorems.{one-outcome}
-use Rattle.runs.proofs.Whole.{closed-or-early, whole-run, whole-sound, whole-faulty}
+use Rattle.runs.proofs.Theorems.{one-outcome, sound-closes}
+use Rattle.runs.proofs.Whole.{closed-or-early, done-exactly, whole-run, whole-sound, whole-faulty}
 use Rattle.runs.proofs.Plain.{plain-complete}
 use Rattle.whole.specs.Calls.{callOf, callsOf}
 use Rattle.face.specs.Outcomes.{RunTells}
@@ -158,6 +159,29 @@ module _ (text words : List ℕ) (levels : ℕ) (cuts : List ℕ) {number place 
   index-numbers tells =
       let m = length cuts + 1 in
       by-opening text words levels cuts (plainly m) tells (λ e. by-end text words levels cuts (plainly m) tells (whole-run text levels cuts words (plainly m) e (plain-complete m)))
+
+-- ---- which calls leave a step out
+
+number-done : (a : Answer) → numberOf a ≡ 0 → a ≡ Done
+number-done Done e = refl
+number-done (Refused r) e = absurd (done-other r (sym e))
+number-done (Faulty f) e = absurd (omega (arith, e, fault-numbers f))
+
+module _ (text words : List ℕ) (levels : ℕ) (cuts calls : List ℕ) {number place : ℕ} {after : List ℕ} (accepted : opening (length text) (length words) levels cuts ≡ Done)
+    (tells : RunTells text words levels cuts (callsOf calls) number place after) (s : faultOf text ≡ sound) where
+  -- over a sound record wararish_run tells 0 exactly where none was left out
+  pub run-exactly : (number ≡ 0) ↔ ((k : ℕ) → k < length cuts + 1 → tally (callsOf calls) noSteps .levelled k ≡ true)
+  run-exactly =
+      let d = done-exactly text levels cuts words (callsOf calls) accepted (bytes-steps calls) s in
+      (λ e. d .0 (number-done (wholeAnswer text words levels cuts (callsOf calls)) (sym (tells .number-is) ∙ e)), λ e. tells .number-is ∙ ap numberOf (d .1 e))
+
+  -- and else 12
+  pub run-early : (number ≡ 0 → ⊥) → number ≡ 12
+  run-early n = go (closed-or-early text levels cuts words (callsOf calls) accepted (bytes-steps calls))
+    where
+      go : ClosedRun text levels (wholeAnswer text words levels cuts (callsOf calls)) (wholeWords text words levels cuts (callsOf calls)) ⊎ (wholeAnswer text words levels cuts (callsOf calls) ≡ Refused Early) → number ≡ 12
+      go (inl c) = absurd (n (tells .number-is ∙ ap numberOf (sound-closes s c .0)))
+      go (inr e) = tells .number-is ∙ ap numberOf e
 
 -- any two calls of wararish_run over one record with as many levels: whatever the words were, the cuts, and the calls and their order, unless one is
 -- told 12 (its close was too early), both are told the same and leave the same words

@@ -14,6 +14,7 @@ pub mod Theorems
 pub mod Progress
 pub mod Settles
 pub mod Had
+pub mod Marks
 pub mod Whole
 pub mod Plain
 pub mod Refused

@@ -104,7 +104,7 @@ module _ (text : List ℕ) (levels : ℕ) (cuts words : List ℕ) (accepted : op
   first-chunk : chunkAt j 0 ≡ fresh 0
   first-chunk = cut-zero cuts (length cuts)
 
-  any-chunk : (P : Chunk → Type 0) → ((at : ℕ) → P (fresh at)) → (k : ℕ) → k < j .count → P (chunkAt j k)
+  pub any-chunk : (P : Chunk → Type 0) → ((at : ℕ) → P (fresh at)) → (k : ℕ) → k < j .count → P (chunkAt j k)
   any-chunk P p zero l = subst P (sym first-chunk) (p 0)
   any-chunk P p (suc k) l = subst P (sym (next-chunk k (omega arith))) (p (getD cuts k 0))
 
