@@ -479,18 +479,20 @@ fn arguments_need_not_be_utf_8() {
     assert!(String::from_utf8(json).unwrap().starts_with("{\"path\":\"$\u{fffd}\","));
 }
 
-/// What is seen on a terminal that runs a command, or nothing where there is no `script` to make one.
+/// What is seen on a terminal that runs a command, or nothing where no terminal can be made.
 fn on_a_terminal(command: &str) -> Option<String> {
-    let output = Command::new("script").args(["-qec", command, "/dev/null"]).stdin(Stdio::null()).output().ok()?;
-    Some(String::from_utf8(output.stdout).unwrap())
+    let script = |command| Command::new("script").args(["-qec", command, "/dev/null"]).stdin(Stdio::null()).output();
+    if !script("true").is_ok_and(|output| output.status.success()) {
+        println!("left out: there is no command script, or it can make no terminal");
+        return None;
+    }
+    Some(String::from_utf8(script(command).unwrap().stdout).unwrap())
 }
 
 #[test]
 fn progress_is_shown_on_a_terminal_and_cleared() {
     let slow = format!("(printf '[1'; sleep 3; printf ']') | {PROGRAM} ask '$[0]' -");
-    let Some(seen) = on_a_terminal(&slow) else {
-        return println!("left out: there is no command script");
-    };
+    let Some(seen) = on_a_terminal(&slow) else { return };
     assert!(seen.starts_with("\r\x1b[Kwararish: reading, "), "{seen:?}");
     assert!(seen.contains("wararish: reading, 2 bytes, "), "{seen:?}");
     assert!(seen.matches("\r\x1b[Kwararish: reading, ").count() > 1, "the line is rewritten: {seen:?}");
