@@ -39,7 +39,7 @@ int main(int count, char **arguments) {
     uint8_t *record = malloc(WARARISH_LIMIT + 1);
     uint64_t *words = malloc(most * sizeof *words);
     const size_t no_cuts = 0;
-    size_t n, size, place, length;
+    size_t n, word_count, place, size;
     uint64_t number;
 
     if (count != 3) {
@@ -51,16 +51,16 @@ int main(int count, char **arguments) {
         return 71;
     }
     n = read_record(arguments[2], record);
-    size = n <= WARARISH_LIMIT ? WARARISH_WORDS(LEVELS, n) : 0;
+    word_count = n <= WARARISH_LIMIT ? WARARISH_WORDS(LEVELS, n) : 0;
 
-    number = wararish_index(record, n, words, size, LEVELS, &no_cuts, 0, &place);
+    number = wararish_index(record, n, words, word_count, LEVELS, &no_cuts, 0, &place);
     check(number, place);
 
-    number = wararish_query(record, n, words, size, LEVELS, (const uint8_t *)arguments[1], strlen(arguments[1]), &place,
-                            &length);
+    number = wararish_query(record, n, words, word_count, LEVELS, (const uint8_t *)arguments[1],
+                            strlen(arguments[1]), &place, &size);
     check(number, place);
 
-    fwrite(record + place, 1, length, stdout);
+    fwrite(record + place, 1, size, stdout);
     putchar('\n');
     free(words);
     free(record);

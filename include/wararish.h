@@ -10,10 +10,10 @@
  *   - each length is the true one, in elements, and words, cuts, place and size are aligned as
  *     their types are;
  *   - words (where they are written), place and size overlap nothing else that is handed in;
- *   - nobody else writes the record, cuts, calls or path while a call runs, or reads or writes
- *     what the call writes.
+ *   - nobody else writes the record, cuts, calls, path or the words of a query while a call runs,
+ *     or reads or writes what the call writes.
  * All else is checked by the proved code: what it cannot do it refuses, with a number of the table
- * below, and a refused call writes no word. Place and size are always written.
+ * below, and writes no word then, but for 12. Place and size are always written.
  *
  *    0      done; for a query: found
  *    1  2   the record is empty; above WARARISH_LIMIT bytes
@@ -78,9 +78,9 @@ uint64_t wararish_run(const uint8_t *record, size_t record_length,
                       size_t *place);
 
 /* Asks a record for a path: $, then steps .name or [number]. The words are those that were made of
- * this record with these levels, and they are only read. Gives 0, with where the part begins and
- * how many bytes it has: it is a part of the record itself. Else gives 1 to 4 or 20 to 27, and
- * size is 0. */
+ * this record with these levels, and they are only read; by others it answers as their bits say.
+ * Gives 0, with where the part begins and how many bytes it has: it is a part of the record itself.
+ * Else gives 1 to 4 or 20 to 27, and size is 0. */
 uint64_t wararish_query(const uint8_t *record, size_t record_length,
                         const uint64_t *words, size_t words_length,
                         size_t levels,

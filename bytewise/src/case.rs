@@ -31,13 +31,8 @@ fn mix(digest: u64, word: u64) -> u64 {
     (turned ^ (turned >> 29)).wrapping_add(0x9E37_79B9_7F4A_7C15)
 }
 
-impl Default for Case {
-    fn default() -> Case {
-        Case::new()
-    }
-}
-
 impl Case {
+    #[allow(clippy::new_without_default)] // nobody makes one by default
     pub fn new() -> Case {
         Case {
             calls: Vec::new(),

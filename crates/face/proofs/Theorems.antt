@@ -1,5 +1,5 @@
 -- What a foreign caller hears of a record, by the record and the rules: a call is a whole run, and the theorems about those speak of it.
-use Prim.Native.Nat.{ℕ, _+_, _≤_, _<_, _%_, _/_}
+use Prim.Native.Nat.{ℕ, _+_, _≤_, _%_, _/_}
 use mathlib.Core.Path.{_≡_, refl, sym, ap, _∙_, subst}
 use mathlib.Core.Bool.{Bool, true, false, _&&_}
 use mathlib.Core.Logic.{_⊎_, inl, inr, _↔_}
@@ -20,25 +20,26 @@ use Rattle.index.specs.declared.Refusal.the-variants.{Early}
 use Rattle.index.specs.Answers.{faultNumber, refusalNumber, numberOf, placeOf, Check, checked, onDone}
 use Rattle.index.specs.Opening.{openChecks, opening}
 use Rattle.index.proofs.AnswerLaws.{done-other}
-use Rattle.runs.specs.Runs.{Call, scan, settle, level, Ends, ClosedRun}
-use Rattle.runs.specs.Whole.{wholeAnswer, wholeWords, plainly, noSteps, tally, stepsAlone, NoneLeftOut}
+use Rattle.runs.specs.Runs.{Call, scan, settle, level, Ends}
+use Rattle.runs.specs.Whole.{wholeAnswer, wholeWords, WholeRun, plainly, stepsAlone, LeavesNoneOut}
 use Rattle.runs.proofs.Steps.{both}
 use Rattle.runs.proofs.Theorems.{one-outcome, sound-closes}
 use Rattle.runs.proofs.Whole.{closed-or-early, done-exactly, whole-run, whole-sound, whole-faulty}
-use Rattle.runs.proofs.Plain.{plain-complete}
+use Rattle.runs.proofs.Plain.{plain-steps, plain-complete}
 use Rattle.whole.specs.Calls.{callOf, callsOf}
 use Rattle.face.specs.Outcomes.{RunTells}
 
 -- a byte is a step, never a close
-bytes-steps : (calls : List ℕ) → stepsAlone (callsOf calls) ≡ true
+pub bytes-steps : (calls : List ℕ) → stepsAlone (callsOf calls) ≡ true
 unfolding stepsAlone callsOf callOf
 bytes-steps [] = refl
-bytes-steps (c ∷ cs) = go (eqb (c % 4) 2) (eqb (c % 4) 3) (bytes-steps cs)
+bytes-steps (c ∷ cs) = go (eqb (c % 4) 0) (eqb (c % 4) 1) (eqb (c % 4) 2) (bytes-steps cs)
   where
-    go : (a b : Bool) → stepsAlone (callsOf cs) ≡ true → stepsAlone (pick a (settle (c / 4)) (pick b (level (c / 4)) (scan (c / 4) (eqb (c % 4) 1))) ∷ callsOf cs) ≡ true
-    go true b e = e
-    go false true e = e
-    go false false e = e
+    go : (x y z : Bool) → stepsAlone (callsOf cs) ≡ true → stepsAlone (pick x (scan (c / 4) false) (pick y (scan (c / 4) true) (pick z (settle (c / 4)) (level (c / 4)))) ∷ callsOf cs) ≡ true
+    go true y z e = e
+    go false true z e = e
+    go false false true e = e
+    go false false false e = e
 
 -- the contract allows one outcome
 pub run-one : {text words cuts after then : List ℕ} {levels n m p q : ℕ} {calls : List Call} → RunTells text words levels cuts calls n p after → RunTells text words levels cuts calls m q then
@@ -58,38 +59,35 @@ module _ (text words : List ℕ) (levels : ℕ) (cuts : List ℕ) where
         kept (Refused r) d o n = refl
         kept (Faulty f) d o n = refl
 
-    module _ (accepted : opening (length text) (length words) levels cuts ≡ Done) (none : NoneLeftOut (length cuts + 1) calls) where
+    module _ (accepted : opening (length text) (length words) levels cuts ≡ Done) (alone : stepsAlone calls ≡ true) (none : LeavesNoneOut (length cuts + 1) calls) where
       none-sound : faultOf text ≡ sound → (number ≡ 0) × (place ≡ 0) × (after ≡ index text levels)
       none-sound s =
-          let w = whole-sound text levels cuts words calls accepted none s in
+          let w = whole-sound text levels cuts words calls accepted alone none s in
           (tells .number-is ∙ ap numberOf (w .0), tells .place-is ∙ ap placeOf (w .0), tells .words-are ∙ w .1)
 
       none-faulty : {n p : ℕ} → faultOf text ≡ faulty n p → (number ≡ n) × (place ≡ p) × (after ≡ replicate (sizeOf levels (length text)) 0)
       none-faulty s =
-          let w = whole-faulty text levels cuts words calls accepted none s in
+          let w = whole-faulty text levels cuts words calls accepted alone none s in
           (tells .number-is ∙ w .0, tells .place-is ∙ w .1, tells .words-are ∙ w .2)
 
   module _ (accepted : opening (length text) (length words) levels cuts ≡ Done) {number place : ℕ} {after : List ℕ} where
     -- wararish_run, by calls that leave no step out
-    module _ (calls : List ℕ) (none : (k : ℕ) → k < length cuts + 1 → tally (callsOf calls) noSteps .levelled k ≡ true) (tells : RunTells text words levels cuts (callsOf calls) number place after) where
-      complete : NoneLeftOut (length cuts + 1) (callsOf calls)
-      complete = record { steps-alone = bytes-steps calls; all-levelled = none }
-
+    module _ (calls : List ℕ) (none : LeavesNoneOut (length cuts + 1) (callsOf calls)) (tells : RunTells text words levels cuts (callsOf calls) number place after) where
       -- over a sound record: 0 and the index
       pub run-sound : faultOf text ≡ sound → (number ≡ 0) × (place ≡ 0) × (after ≡ index text levels)
-      run-sound = none-sound (callsOf calls) tells accepted complete
+      run-sound = none-sound (callsOf calls) tells accepted (bytes-steps calls) none
 
       -- over a faulty one: its first fault and zeros
       pub run-faulty : {n p : ℕ} → faultOf text ≡ faulty n p → (number ≡ n) × (place ≡ p) × (after ≡ replicate (sizeOf levels (length text)) 0)
-      run-faulty = none-faulty (callsOf calls) tells accepted complete
+      run-faulty = none-faulty (callsOf calls) tells accepted (bytes-steps calls) none
 
     -- wararish_index, which leaves none out
     module _ (tells : RunTells text words levels cuts (plainly (length cuts + 1)) number place after) where
       pub index-sound : faultOf text ≡ sound → (number ≡ 0) × (place ≡ 0) × (after ≡ index text levels)
-      index-sound = none-sound (plainly (length cuts + 1)) tells accepted (plain-complete (length cuts + 1))
+      index-sound = none-sound (plainly (length cuts + 1)) tells accepted (plain-steps (length cuts + 1)) (plain-complete (length cuts + 1))
 
       pub index-faulty : {n p : ℕ} → faultOf text ≡ faulty n p → (number ≡ n) × (place ≡ p) × (after ≡ replicate (sizeOf levels (length text)) 0)
-      index-faulty = none-faulty (plainly (length cuts + 1)) tells accepted (plain-complete (length cuts + 1))
+      index-faulty = none-faulty (plainly (length cuts + 1)) tells accepted (plain-steps (length cuts + 1)) (plain-complete (length cuts + 1))
 
 -- ---- which numbers there are
 
@@ -125,7 +123,6 @@ ends-numbers (Ends.fault f) = inr (fault-numbers f)
 module _ (text words : List ℕ) (levels : ℕ) (cuts : List ℕ) (calls : List Call) {number place : ℕ} {after : List ℕ} (tells : RunTells text words levels cuts calls number place after) where
   -- by the opening's answer
   by-opening : {High : Type 0} → (opening (length text) (length words) levels cuts ≡ Done → (number ≤ 6) ⊎ High) → (number ≤ 6) ⊎ High
-  unfolding wholeAnswer
   by-opening {High} accepted = go (opening (length text) (length words) levels cuts) refl
     where
       refused : (opening (length text) (length words) levels cuts ≡ Done → ⊥) → (number ≤ 6) ⊎ High
@@ -137,7 +134,7 @@ module _ (text words : List ℕ) (levels : ℕ) (cuts : List ℕ) (calls : List 
       go (Faulty f) e = refused (λ d. impossible (cc))
 
   -- of a run that was closed
-  by-end : ClosedRun text levels (wholeAnswer text words levels cuts calls) (wholeWords text words levels cuts calls) → (number ≤ 6) ⊎ ((13 ≤ number) × (number ≤ 16))
+  by-end : WholeRun text words levels cuts calls → (number ≤ 6) ⊎ ((13 ≤ number) × (number ≤ 16))
   by-end c = subst (λ (n : ℕ). (n ≤ 6) ⊎ ((13 ≤ n) × (n ≤ 16))) (sym (tells .number-is)) (ends-numbers (c .ends))
 
 module _ (text words : List ℕ) (levels : ℕ) (cuts : List ℕ) {number place : ℕ} {after : List ℕ} where
@@ -149,7 +146,7 @@ module _ (text words : List ℕ) (levels : ℕ) (cuts : List ℕ) {number place 
       wider (inl l) = inl l
       wider (inr l) = inr (omega arith, l .1)
 
-      go : ClosedRun text levels (wholeAnswer text words levels cuts (callsOf calls)) (wholeWords text words levels cuts (callsOf calls)) ⊎ (wholeAnswer text words levels cuts (callsOf calls) ≡ Refused Early)
+      go : WholeRun text words levels cuts (callsOf calls) ⊎ (wholeAnswer text words levels cuts (callsOf calls) ≡ Refused Early)
           → (number ≤ 6) ⊎ ((12 ≤ number) × (number ≤ 16))
       go (inl c) = wider (by-end text words levels cuts (callsOf calls) tells c)
       go (inr e) = let twelve = tells .number-is ∙ ap numberOf e in inr (omega (arith, twelve), omega (arith, twelve))
@@ -158,7 +155,7 @@ module _ (text words : List ℕ) (levels : ℕ) (cuts : List ℕ) {number place 
   pub index-numbers : RunTells text words levels cuts (plainly (length cuts + 1)) number place after → (number ≤ 6) ⊎ ((13 ≤ number) × (number ≤ 16))
   index-numbers tells =
       let m = length cuts + 1 in
-      by-opening text words levels cuts (plainly m) tells (λ e. by-end text words levels cuts (plainly m) tells (whole-run text levels cuts words (plainly m) e (plain-complete m)))
+      by-opening text words levels cuts (plainly m) tells (λ e. by-end text words levels cuts (plainly m) tells (whole-run text levels cuts words (plainly m) e (plain-steps m) (plain-complete m)))
 
 -- ---- which calls leave a step out
 
@@ -170,7 +167,7 @@ number-done (Faulty f) e = absurd (omega (arith, e, fault-numbers f))
 module _ (text words : List ℕ) (levels : ℕ) (cuts calls : List ℕ) {number place : ℕ} {after : List ℕ} (accepted : opening (length text) (length words) levels cuts ≡ Done)
     (tells : RunTells text words levels cuts (callsOf calls) number place after) (s : faultOf text ≡ sound) where
   -- over a sound record wararish_run tells 0 exactly where none was left out
-  pub run-exactly : (number ≡ 0) ↔ ((k : ℕ) → k < length cuts + 1 → tally (callsOf calls) noSteps .levelled k ≡ true)
+  pub run-exactly : (number ≡ 0) ↔ LeavesNoneOut (length cuts + 1) (callsOf calls)
   run-exactly =
       let d = done-exactly text levels cuts words (callsOf calls) accepted (bytes-steps calls) s in
       (λ e. d .0 (number-done (wholeAnswer text words levels cuts (callsOf calls)) (sym (tells .number-is) ∙ e)), λ e. tells .number-is ∙ ap numberOf (d .1 e))
@@ -179,24 +176,25 @@ module _ (text words : List ℕ) (levels : ℕ) (cuts calls : List ℕ) {number 
   pub run-early : (number ≡ 0 → ⊥) → number ≡ 12
   run-early n = go (closed-or-early text levels cuts words (callsOf calls) accepted (bytes-steps calls))
     where
-      go : ClosedRun text levels (wholeAnswer text words levels cuts (callsOf calls)) (wholeWords text words levels cuts (callsOf calls)) ⊎ (wholeAnswer text words levels cuts (callsOf calls) ≡ Refused Early) → number ≡ 12
+      go : WholeRun text words levels cuts (callsOf calls) ⊎ (wholeAnswer text words levels cuts (callsOf calls) ≡ Refused Early) → number ≡ 12
       go (inl c) = absurd (n (tells .number-is ∙ ap numberOf (sound-closes s c .0)))
       go (inr e) = tells .number-is ∙ ap numberOf e
 
--- any two calls of wararish_run over one record with as many levels: whatever the words were, the cuts, and the calls and their order, unless one is
--- told 12 (its close was too early), both are told the same and leave the same words
-pub one-told : (text words also : List ℕ) (levels : ℕ) (cuts borders calls steps : List ℕ) {n m p q : ℕ} {after then : List ℕ}
+-- any two calls of wararish_run or wararish_index over one record with as many levels: whatever the words were, the cuts, the steps that are called
+-- and their order, unless one is told 12 (its close was too early), both are told the same and leave the same words
+pub one-told : (text words also : List ℕ) (levels : ℕ) (cuts borders : List ℕ) (calls steps : List Call) {n m p q : ℕ} {after then : List ℕ}
     → opening (length text) (length words) levels cuts ≡ Done → opening (length text) (length also) levels borders ≡ Done
-    → RunTells text words levels cuts (callsOf calls) n p after → RunTells text also levels borders (callsOf steps) m q then
+    → stepsAlone calls ≡ true → stepsAlone steps ≡ true
+    → RunTells text words levels cuts calls n p after → RunTells text also levels borders steps m q then
     → (n ≡ 12 → ⊥) → (m ≡ 12 → ⊥) → (n ≡ m) × (p ≡ q) × (after ≡ then)
-one-told text words also levels cuts borders calls steps {n} {m} {p} {q} {after} {then} a b t u i j =
-    go (closed-or-early text levels cuts words (callsOf calls) a (bytes-steps calls)) (closed-or-early text levels borders also (callsOf steps) b (bytes-steps steps))
+one-told text words also levels cuts borders calls steps {n} {m} {p} {q} {after} {then} a b c d t u i j =
+    go (closed-or-early text levels cuts words calls a c) (closed-or-early text levels borders also steps b d)
   where
-    go : ClosedRun text levels (wholeAnswer text words levels cuts (callsOf calls)) (wholeWords text words levels cuts (callsOf calls)) ⊎ (wholeAnswer text words levels cuts (callsOf calls) ≡ Refused Early)
-        → ClosedRun text levels (wholeAnswer text also levels borders (callsOf steps)) (wholeWords text also levels borders (callsOf steps)) ⊎ (wholeAnswer text also levels borders (callsOf steps) ≡ Refused Early)
+    go : WholeRun text words levels cuts calls ⊎ (wholeAnswer text words levels cuts calls ≡ Refused Early)
+        → WholeRun text also levels borders steps ⊎ (wholeAnswer text also levels borders steps ≡ Refused Early)
         → (n ≡ m) × (p ≡ q) × (after ≡ then)
-    go (inl c) (inl d) =
-        let e = one-outcome c d in
+    go (inl x) (inl y) =
+        let e = one-outcome x y in
         (t .number-is ∙ ap numberOf (e .0) ∙ sym (u .number-is), t .place-is ∙ ap placeOf (e .0) ∙ sym (u .place-is), t .words-are ∙ e .1 ∙ sym (u .words-are))
-    go (inl c) (inr e) = absurd (j (u .number-is ∙ ap numberOf e))
-    go (inr e) d = absurd (i (t .number-is ∙ ap numberOf e))
+    go (inl x) (inr e) = absurd (j (u .number-is ∙ ap numberOf e))
+    go (inr e) y = absurd (i (t .number-is ∙ ap numberOf e))

@@ -1,6 +1,6 @@
--- Steps that chunks have had stay had, whatever is called next; and a step called in its time has been had after it.
-use mathlib.Core.Path.{_≡_, refl, ap, ap₂, _∙_, subst}
-use mathlib.Core.Bool.{Bool, true, false, _&&_}
+-- Steps that chunks have had stay had, whatever is called next, and a stopped job stays stopped.
+use mathlib.Core.Path.{_≡_, refl, ap, _∙_, subst}
+use mathlib.Core.Bool.{Bool, true}
 use mathlib.Core.List.{List}
 use Prim.Native.Nat.{ℕ, _<_}
 use native.Mathlib.Decide.{ℕ-discrete}
@@ -10,18 +10,16 @@ use Rattle.index.specs.declared.Answer.{Answer}
 use Rattle.index.specs.declared.Answer.the-variants.{Done, Refused, Faulty}
 use Rattle.index.specs.declared.Fault.{Fault}
 use Rattle.index.specs.declared.Job.{Job}
-use Rattle.index.specs.Types.{Chunk, Open, Stopped, Step, Scan, Settle, Level}
+use Rattle.index.specs.Types.{Chunk, Stopped, Step, Scan, Settle, Level}
 use Rattle.index.specs.Answers.{onDone}
-use Rattle.index.specs.Checks.{chunkAt, withChunk, settledBefore, refusal}
+use Rattle.index.specs.Checks.{chunkAt, withChunk, refusal}
 use Rattle.index.specs.Scanning.{scanChunk, scanned}
 use Rattle.index.specs.Settling.{settleWords, settleChunk, foundBy, foundJob, settled}
 use Rattle.index.specs.Levelling.{levelChunk, levelled}
 use Rattle.index.proofs.Cases.{found-case}
 use Rattle.index.proofs.CheckLaws.{chunks-few, accepted, if-stopped}
-use Rattle.runs.specs.Runs.{scan, settle, level, Held, act, Reached}
+use Rattle.runs.specs.Runs.{scan, settle, level, Held, act}
 use Rattle.runs.proofs.Spans.{Shape, chunk-new, chunk-old}
-use Rattle.runs.proofs.Progress.{accept}
-use Rattle.runs.proofs.Settles.{now-settled}
 
 -- every step that a chunk has had
 pub record Keeps (j next : Job) : Type 0 where
@@ -109,32 +107,3 @@ module _ (text : List ℕ) (k : ℕ) (h : Held) where
   pub settle-stopped : (f : Fault) → h .job .state ≡ Stopped f → act text (settle k) h .job .state ≡ Stopped f
   unfolding act settled
   settle-stopped f e = rw (if-stopped Settle (h .job) (length text) (length (h .words)) k f e) e
-
--- ---- a step in its time
-
-module _ {text : List ℕ} {levels : ℕ} {h : Held} (r : Reached text levels h) (o : h .job .state ≡ Open) (s : Shape text levels (h .job) (h .words)) (k : ℕ) (l : k < h .job .count) where
-  small : k < 64
-  small = omega (arith, l, s .many)
-
-  pub scan-had : (x : Bool) → chunkAt (act text (scan k x) h .job) k .scanned ≡ true
-  unfolding act scanned scanChunk
-  scan-had x = go (chunkAt (h .job) k .scanned) refl
-    where
-      go : (b : Bool) → chunkAt (h .job) k .scanned ≡ b → chunkAt (act text (scan k x) h .job) k .scanned ≡ true
-      go true e = scan-keeps s k x .scanned-stays k e
-      go false e = rw (accept r o Scan k l e refl) (ap (λ (c : Chunk). c .scanned) (chunk-new (h .job) (s .room) k small (scanChunk (h .job) text k x)))
-
-  pub settle-had : chunkAt (h .job) k .scanned ≡ true → settledBefore (h .job) k ≡ true → chunkAt (act text (settle k) h .job) k .settled ≡ true
-  settle-had seen before = go (chunkAt (h .job) k .settled) refl
-    where
-      go : (b : Bool) → chunkAt (h .job) k .settled ≡ b → chunkAt (act text (settle k) h .job) k .settled ≡ true
-      go true e = settle-keeps s k .settled-stays k e
-      go false e = now-settled r k (accept r o Settle k l e (ap₂ _&&_ seen before))
-
-  pub level-had : chunkAt (h .job) k .settled ≡ true → chunkAt (act text (level k) h .job) k .levelled ≡ true
-  unfolding act levelled levelChunk
-  level-had set = go (chunkAt (h .job) k .levelled) refl
-    where
-      go : (b : Bool) → chunkAt (h .job) k .levelled ≡ b → chunkAt (act text (level k) h .job) k .levelled ≡ true
-      go true e = level-keeps s k .levelled-stays k e
-      go false e = rw (accept r o Level k l e set) (ap (λ (c : Chunk). c .levelled) (chunk-new (h .job) (s .room) k small (levelChunk (h .job) k)))

@@ -1,35 +1,41 @@
 -- What a step marks, exactly: its own step of its own chunk, where it is called in its time. By the refusals of an open job, test by test.
 use Prim.Native.Nat.{ℕ, _<_}
-use mathlib.Core.Path.{_≡_, refl, sym, ap, _∙_, subst}
-use mathlib.Core.Bool.{Bool, true, false, _||_}
+use mathlib.Core.Path.{_≡_, refl, sym, ap, ap₂, _∙_, subst}
+use mathlib.Core.Bool.{Bool, true, false, _&&_, _||_}
 use mathlib.Core.List.{List}
 use native.Mathlib.Decide.{ℕ-discrete}
 use native.Mathlib.Omega.{arith}
 use lib.ListN.{length}
 use borrow.Author.Tests.{eq-eqb, ne-eqb}
-use Rattle.rules.proofs.Booleans.{impossible}
+use Rattle.rules.proofs.Booleans.{impossible, bool1}
 use Rattle.index.specs.declared.Answer.{Answer}
 use Rattle.index.specs.declared.Answer.the-variants.{Done, Refused, Faulty}
 use Rattle.index.specs.declared.Job.{Job}
-use Rattle.index.specs.Types.{Chunk, Open, Closed, Step, Scan, Settle, Level, Found}
+use Rattle.index.specs.Types.{Chunk, Open, Closed, Step, Scan, Settle, Level}
 use Rattle.index.specs.Answers.{onDone}
-use Rattle.index.specs.Checks.{chunksOf, chunkAt, withChunk, sameLengths, taken, ready, refusal}
+use Rattle.index.specs.Checks.{chunksOf, chunkAt, withChunk, sameLengths, taken, settledBefore, ready, refusal}
 use Rattle.index.specs.Scanning.{scanChunk, scanned}
 use Rattle.index.specs.Settling.{settleWords, settleChunk, foundBy, foundJob, settled}
 use Rattle.index.specs.Levelling.{levelChunk, levelled}
-use Rattle.index.proofs.Cases.{found-case}
 use Rattle.index.proofs.CheckLaws.{chunks-few, accepted, if-taken, if-early, if-done}
 use Rattle.runs.specs.Runs.{scan, settle, level, Held, act, Reached}
 use Rattle.runs.specs.Whole.{andNow}
 use Rattle.runs.proofs.Spans.{Shape, count-is, chunk-new, chunk-old, chunk-any}
 use Rattle.runs.proofs.Theorems.{good, lengths-exactly}
+use Rattle.runs.proofs.Settles.{found-chunk}
+
+-- ---- what a chunk has now
+
+pub still : (had : ℕ → Bool) (k : ℕ) (inTime : Bool) (i : ℕ) → had i ≡ true → andNow had k inTime i ≡ true
+still had k inTime i e = rw e
+
+pub now : (had : ℕ → Bool) (k : ℕ) (inTime : Bool) → inTime ≡ true → andNow had k inTime k ≡ true
+now had k inTime e = rw (eq-eqb k k refl, e) (bool1 (λ b. b || true) (λ b. true) tt (had k))
 
 other : (had : ℕ → Bool) (k : ℕ) (inTime : Bool) (i : ℕ) → (i ≡ k → ⊥) → had i ≡ andNow had k inTime i
-other had k inTime i n = rw (ne-eqb i k n) (go (had i))
-  where
-    go : (b : Bool) → b ≡ (b || false)
-    go true = refl
-    go false = refl
+other had k inTime i n = rw (ne-eqb i k n) (bool1 (λ b. b) (λ b. b || false) tt (had i))
+
+-- ---- of a job that is open
 
 module _ {text : List ℕ} {levels : ℕ} {h : Held} (r : Reached text levels h) (o : h .job .state ≡ Open) (k : ℕ) where
   abbrev j : Job
@@ -90,7 +96,7 @@ module _ {text : List ℕ} {levels : ℕ} {h : Held} (r : Reached text levels h)
           go (yes p) = subst (λ (x : ℕ). taken s (chunkAt after x) ≡ andNow (λ y. taken s (chunkAt j y)) k (ready s j k) x) (sym p) (here (omega (arith, l, p)))
           go (no n) = away i n ∙ other (λ x. taken s (chunkAt j x)) k (ready s j k) i n
 
-  -- ---- the three steps
+  -- ---- the three steps, and a step in its time
 
   pub scan-marks : (g : Bool) (i : ℕ) → i < j .count → chunkAt (act text (scan k g) h .job) i .scanned ≡ andNow (λ x. chunkAt j x .scanned) k true i
   unfolding act scanned scanChunk
@@ -117,7 +123,7 @@ module _ {text : List ℕ} {levels : ℕ} {h : Held} (r : Reached text levels h)
   found-same i = go (refusal Settle j (length text) (length (h .words)) k)
     where
       go : (a : Answer) → chunkAt (onDone a (foundJob (foundBy j text (settleWords j text (h .words) k) k) (withChunk j k settledChunk)) j) i ≡ chunkAt (onDone a (withChunk j k settledChunk) j) i
-      go Done = found-case (λ (y : Found). chunkAt (foundJob y (withChunk j k settledChunk)) i ≡ chunkAt (withChunk j k settledChunk) i) refl (λ f. refl) (foundBy j text (settleWords j text (h .words) k) k)
+      go Done = found-chunk (foundBy j text (settleWords j text (h .words) k) k) (withChunk j k settledChunk) i
       go (Refused y) = refl
       go (Faulty f) = refl
 
@@ -131,3 +137,13 @@ module _ {text : List ℕ} {levels : ℕ} {h : Held} (r : Reached text levels h)
     ap (λ (c : Chunk). c .scanned) (found-same i) ∙ unmarked Settle settledChunk (λ c. c .scanned) refl i,
     ap (λ (c : Chunk). c .levelled) (found-same i) ∙ unmarked Settle settledChunk (λ c. c .levelled) refl i,
   )
+
+  module _ (l : k < j .count) where
+    pub scan-had : (g : Bool) → chunkAt (act text (scan k g) h .job) k .scanned ≡ true
+    scan-had g = scan-marks g k l ∙ now (λ x. chunkAt j x .scanned) k true refl
+
+    pub settle-had : chunkAt j k .scanned ≡ true → settledBefore j k ≡ true → chunkAt (act text (settle k) h .job) k .settled ≡ true
+    settle-had seen before = settle-marks k l ∙ now (λ x. chunkAt j x .settled) k (ready Settle j k) (ap₂ _&&_ seen before)
+
+    pub level-had : chunkAt j k .settled ≡ true → chunkAt (act text (level k) h .job) k .levelled ≡ true
+    level-had set = level-marks k l ∙ now (λ x. chunkAt j x .levelled) k (ready Level j k) set

@@ -1,35 +1,19 @@
 -- The plain order leaves no step out: behind the scans every chunk is scanned, and then each is settled and levelled in its turn.
 use Prim.Native.Nat.{ℕ, zero, suc, _+_, _<_}
 use mathlib.Core.Path.{_≡_, refl, sym, ap, ap₂, _∙_, subst}
-use mathlib.Core.Bool.{Bool, true, false, _&&_, _||_}
+use mathlib.Core.Bool.{Bool, true, _&&_}
 use mathlib.Core.Logic.{_⊎_, inl, inr}
 use mathlib.Core.List.{List, [], _∷_, _++_}
 use native.Mathlib.Decide.{ℕ-discrete}
 use native.Mathlib.Omega.{arith}
-use lib.Dec.{eqb}
-use borrow.Author.Tests.{eq-eqb}
-use Rattle.runs.specs.Runs.{Call, scan, settle, level, close}
-use Rattle.runs.specs.Whole.{scans, finishes, plainly, Tally, noSteps, settleInTime, andNow, tally, stepsAlone, NoneLeftOut}
+use Rattle.runs.specs.Runs.{Call}
+use Rattle.runs.specs.Whole.{scans, finishes, plainly, Tally, noSteps, settleInTime, andNow, counted, tally, stepsAlone, LeavesNoneOut}
+use Rattle.runs.proofs.Marks.{still, now}
 
 tally-append : (cs ds : List Call) (t : Tally) → tally (cs ++ ds) t ≡ tally ds (tally cs t)
 unfolding tally
 tally-append [] ds t = refl
-tally-append (scan k g ∷ cs) ds t = tally-append cs ds _
-tally-append (settle k ∷ cs) ds t = tally-append cs ds _
-tally-append (level k ∷ cs) ds t = tally-append cs ds _
-tally-append (close ∷ cs) ds t = tally-append cs ds t
-
--- ---- what a chunk had it has still, and it has what is called in its time
-
-still : (had : ℕ → Bool) (k : ℕ) (inTime : Bool) (i : ℕ) → had i ≡ true → andNow had k inTime i ≡ true
-still had k inTime i e = rw e
-
-now : (had : ℕ → Bool) (k : ℕ) (inTime : Bool) → inTime ≡ true → andNow had k inTime k ≡ true
-now had k inTime e = go (had k)
-  where
-    go : (a : Bool) → (a || (eqb k k && inTime)) ≡ true
-    go true = refl
-    go false = rw (eq-eqb k k refl, e)
+tally-append (c ∷ cs) ds t = tally-append cs ds (counted c t)
 
 scans-tally : (k : ℕ) (t : Tally) (i : ℕ) → (i < k) ⊎ (t .scanned i ≡ true) → tally (scans k) t .scanned i ≡ true
 unfolding tally scans
@@ -48,7 +32,7 @@ record Ready (m k : ℕ) (t : Tally) : Type 0 where
   some-settled : (i : ℕ) → i < k → t .settled i ≡ true
   some-levelled : (i : ℕ) → i < k → t .levelled i ≡ true
 
--- what holds of those before k, stays with the others and holds of k now, holds of those before k + 1
+-- those before k have had it, and k has it now: so have those before k + 1
 one-more : (had : ℕ → Bool) (k : ℕ) (inTime : Bool) → ((i : ℕ) → i < k → had i ≡ true) → inTime ≡ true → (i : ℕ) → i < suc k → andNow had k inTime i ≡ true
 one-more had k inTime before e i l = go (ℕ-discrete i k)
   where
@@ -86,11 +70,11 @@ unfolding stepsAlone scans
 scans-steps zero cs e = e
 scans-steps (suc k) cs e = scans-steps k cs e
 
-pub plain-complete : (m : ℕ) → NoneLeftOut m (plainly m)
-plain-complete m =
-    record {
-      steps-alone = scans-steps m (finishes 0 m) (finishes-steps 0 m);
-      all-levelled = λ i l. ap (λ (t : Tally). t .levelled i) (tally-append (scans m) (finishes 0 m) noSteps)
-          ∙ finishes-tally m m 0 (tally (scans m) noSteps) (omega arith)
-          (record { all-scanned = λ x b. scans-tally m noSteps x (inl b); some-settled = λ x b. absurd (omega arith); some-levelled = λ x b. absurd (omega arith) }) i (omega arith);
-    }
+pub plain-steps : (m : ℕ) → stepsAlone (plainly m) ≡ true
+plain-steps m = scans-steps m (finishes 0 m) (finishes-steps 0 m)
+
+pub plain-complete : (m : ℕ) → LeavesNoneOut m (plainly m)
+plain-complete m i l =
+    ap (λ (t : Tally). t .levelled i) (tally-append (scans m) (finishes 0 m) noSteps)
+    ∙ finishes-tally m m 0 (tally (scans m) noSteps) (omega arith)
+    (record { all-scanned = λ x b. scans-tally m noSteps x (inl b); some-settled = λ x b. absurd (omega arith); some-levelled = λ x b. absurd (omega arith) }) i (omega arith)

@@ -72,7 +72,7 @@ module _ {text : List ℕ} {levels : ℕ} {h : Held} (r : Reached text levels h)
   same : sameLengths j (length text) (length (h .words)) ≡ true
   same = lengths-exactly r live (length text) (length (h .words)) .1 (refl, refl)
 
-  pub accept : (s : Step) (k : ℕ) → k < j .count → taken s (chunkAt j k) ≡ false → ready s j k ≡ true → refusal s j (length text) (length (h .words)) k ≡ Done
+  accept : (s : Step) (k : ℕ) → k < j .count → taken s (chunkAt j k) ≡ false → ready s j k ≡ true → refusal s j (length text) (length (h .words)) k ≡ Done
   accept s k l t e = if-done s j (length text) (length (h .words)) k o same (omega (arith, l, count-is (g .shape))) t e
 
   before-first : (k : ℕ) → k < j .count → ((i : ℕ) → i < k → chunkAt j i .levelled ≡ true) → settledBefore j k ≡ true

@@ -134,7 +134,7 @@ fault-later text (suc r) a f e = go (closesNone text a) (opensOver text a) e (fa
     go false true q rest = let same : a ≡ faultPlace f = cc in omega (arith, same)
     go false false q rest = omega (arith, rest q)
 
-found-chunk : (x : Found) (j : Job) (k : ℕ) → chunkAt (foundJob x j) k ≡ chunkAt j k
+pub found-chunk : (x : Found) (j : Job) (k : ℕ) → chunkAt (foundJob x j) k ≡ chunkAt j k
 found-chunk x j k = found-case (λ y. chunkAt (foundJob y j) k ≡ chunkAt j k) refl (λ f. refl) x
 
 found-count : (x : Found) (j : Job) → foundJob x j .count ≡ j .count
@@ -209,7 +209,7 @@ module _ {text : List ℕ} {levels : ℕ} {h : Held} (r : Reached text levels h)
 
   -- ---- what it leaves, whatever it answers
 
-  pub now-settled : chunkAt (act text (settle k) h .job) k .settled ≡ true
+  now-settled : chunkAt (act text (settle k) h .job) k .settled ≡ true
   unfolding act settled
   now-settled = rw e (ap (λ (x : Chunk). x .settled) (found-chunk (foundBy j text after k) (withChunk j k (settleChunk j text after k)) k) ∙ is-settled)
 

@@ -9,7 +9,7 @@ use Rattle.index.specs.declared.Answer.{Answer}
 use Rattle.index.specs.declared.Job.{Job}
 use Rattle.index.specs.Answers.{onDone}
 use Rattle.index.specs.Opening.{opening}
-use Rattle.runs.specs.Runs.{Call, scan, settle, level, close, Held, answer, act, run, start}
+use Rattle.runs.specs.Runs.{Call, scan, settle, level, close, Held, answer, act, run, start, ClosedRun}
 
 abbrev pub held : Job → List ℕ → Held
 held job words = record { job = job; words = words }
@@ -25,6 +25,10 @@ unfoldable pub wholeWords : List ℕ → List ℕ → ℕ → List ℕ → List 
 wholeWords text words levels cuts calls =
     onDone (opening (length text) (length words) levels cuts) (act text close (run text calls (start text levels cuts words)) .words) words
 
+-- it was closed
+abbrev pub WholeRun : List ℕ → List ℕ → ℕ → List ℕ → List Call → Type 0
+WholeRun text words levels cuts calls = ClosedRun text levels (wholeAnswer text words levels cuts calls) (wholeWords text words levels cuts calls)
+
 -- ---- the plain order
 
 -- "scans from the last chunk to the first with the guess 'outside'"
@@ -37,6 +41,7 @@ unfoldable pub finishes : ℕ → ℕ → List Call
 finishes k zero = []
 finishes k (suc left) = settle k ∷ level k ∷ finishes (suc k) left
 
+-- every chunk scanned, then each settled and levelled
 abbrev pub plainly : ℕ → List Call
 plainly chunks = scans chunks ++ finishes 0 chunks
 
@@ -60,23 +65,28 @@ settleInTime t (suc k) = t .scanned (suc k) && t .settled k
 abbrev pub andNow : (ℕ → Bool) → ℕ → Bool → ℕ → Bool
 andNow had k inTime i = had i || (eqb i k && inTime)
 
--- a call too early is refused and changes nothing, and so does one of a step that was taken
+-- a call too early is refused and changes nothing, and so is one of a step that was taken
+abbrev pub counted : Call → Tally → Tally
+counted (scan k g) t = record { scanned = andNow (t .scanned) k true; settled = t .settled; levelled = t .levelled }
+counted (settle k) t = record { scanned = t .scanned; settled = andNow (t .settled) k (settleInTime t k); levelled = t .levelled }
+counted (level k) t = record { scanned = t .scanned; settled = t .settled; levelled = andNow (t .levelled) k (t .settled k) }
+counted close t = t
+
 unfoldable pub tally : List Call → Tally → Tally
 tally [] t = t
-tally (scan k g ∷ cs) t = tally cs (record { scanned = andNow (t .scanned) k true; settled = t .settled; levelled = t .levelled })
-tally (settle k ∷ cs) t = tally cs (record { scanned = t .scanned; settled = andNow (t .settled) k (settleInTime t k); levelled = t .levelled })
-tally (level k ∷ cs) t = tally cs (record { scanned = t .scanned; settled = t .settled; levelled = andNow (t .levelled) k (t .settled k) })
-tally (close ∷ cs) t = tally cs t
+tally (c ∷ cs) t = tally cs (counted c t)
 
--- steps alone, no close
+abbrev pub isStep : Call → Bool
+isStep (scan k g) = true
+isStep (settle k) = true
+isStep (level k) = true
+isStep close = false
+
+-- no close among them
 unfoldable pub stepsAlone : List Call → Bool
 stepsAlone [] = true
-stepsAlone (scan k g ∷ cs) = stepsAlone cs
-stepsAlone (settle k ∷ cs) = stepsAlone cs
-stepsAlone (level k ∷ cs) = stepsAlone cs
-stepsAlone (close ∷ cs) = false
+stepsAlone (c ∷ cs) = isStep c && stepsAlone cs
 
 -- no step of so many chunks is left out: each is levelled, which comes last
-pub record NoneLeftOut (chunks : ℕ) (calls : List Call) : Type 0 where
-  pub steps-alone : stepsAlone calls ≡ true
-  pub all-levelled : (k : ℕ) → k < chunks → tally calls noSteps .levelled k ≡ true
+abbrev pub LeavesNoneOut : ℕ → List Call → Type 0
+LeavesNoneOut chunks calls = (k : ℕ) → k < chunks → tally calls noSteps .levelled k ≡ true

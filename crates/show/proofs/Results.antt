@@ -13,12 +13,11 @@ use Rattle.index.specs.declared.Answer.the-variants.{Done}
 use Rattle.index.specs.Opening.{badCut, first, firstBad, opening}
 use Rattle.index.proofs.OpenLaws.{cutBefore, good-cut, if-opened}
 use Rattle.query.specs.Answers.{answerOf}
-use Rattle.runs.specs.Runs.{ClosedRun}
-use Rattle.runs.specs.Whole.{plainly}
+use Rattle.runs.specs.Whole.{WholeRun, plainly}
 use Rattle.runs.proofs.Theorems.{sound-closes, faulty-closes}
 use Rattle.runs.proofs.Whole.{whole-run}
-use Rattle.runs.proofs.Plain.{plain-complete}
-use Rattle.show.specs.Running.{multiples, cutsOf, jobAnswer, jobWords}
+use Rattle.runs.proofs.Plain.{plain-steps, plain-complete}
+use Rattle.show.specs.Running.{multiples, cutsOf}
 use Rattle.show.specs.Printing.{pathEnd, pathOf, recordOf, placed, queryPrinted, printedIn, zeros, printedOf, shown}
 use Rattle.show.proofs.Inputs.{multiples-long, zeros-long, both}
 
@@ -60,8 +59,8 @@ module _ (text path : List ℕ) (some : 1 ≤ length text) (few : length text �
   abbrev words : List ℕ
   words = zeros (sizeOf 4 (length text))
 
-  whole : ClosedRun text 4 (jobAnswer text words cuts) (jobWords text words cuts)
-  whole = whole-run text 4 cuts words (plainly (length cuts + 1)) (opens (length text) some few) (plain-complete (length cuts + 1))
+  whole : WholeRun text words 4 cuts (plainly (length cuts + 1))
+  whole = whole-run text 4 cuts words (plainly (length cuts + 1)) (opens (length text) some few) (plain-steps (length cuts + 1)) (plain-complete (length cuts + 1))
 
   -- "a fault of the record is printed and not the path's refusal": its number, and its place twice
   pub line-faulty : {n p : ℕ} → faultOf text ≡ faulty n p → printedOf text path ≡ placed n p

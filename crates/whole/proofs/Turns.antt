@@ -1,8 +1,9 @@
 -- A turn of a loop is a call of the run: what is left to run from here gives what all gave from the start.
 use Prim.Native.Nat.{ℕ, suc, _+_, _-_, _≤_, _<_, _%_, _/_}
-use mathlib.Core.Path.{_≡_, ap, _∙_}
-use mathlib.Core.Bool.{Bool, false}
+use mathlib.Core.Path.{_≡_, ap, _∙_, subst}
+use mathlib.Core.Bool.{Bool, true, false}
 use mathlib.Core.List.{List}
+use native.Mathlib.Decide.{ℕ-discrete}
 use native.Mathlib.Omega.{arith}
 use native.Mathlib.Numerals.{add-one}
 use lib.ListN.{length, getD, drop, drop-of-length-le}
@@ -34,16 +35,20 @@ module _ (text words after : List ℕ) (j : Job) (h : Handed) (k : ℕ) where
 module _ (text words after : List ℕ) (j : Job) (h : Handed) (c : ℕ) where
   pub settle-called : c % 4 ≡ 2 → SettleGives j text words (c / 4) h after → held (h .job) after ≡ act text (callOf c) (held j words)
   unfolding callOf
-  settle-called p e = rw (eq-eqb (c % 4) 2 p) (settle-acts text words after j h (c / 4) e)
+  settle-called p e = rw (ne-eqb (c % 4) 0 (omega arith), ne-eqb (c % 4) 1 (omega arith), eq-eqb (c % 4) 2 p) (settle-acts text words after j h (c / 4) e)
 
-  module _ (n : c % 4 ≡ 2 → ⊥) where
-    pub level-called : c % 4 ≡ 3 → LevelGives j text words (c / 4) h after → held (h .job) after ≡ act text (callOf c) (held j words)
-    unfolding callOf
-    level-called p e = rw (ne-eqb (c % 4) 2 n, eq-eqb (c % 4) 3 p) (level-acts text words after j h (c / 4) e)
+  pub level-called : c % 4 ≡ 3 → LevelGives j text words (c / 4) h after → held (h .job) after ≡ act text (callOf c) (held j words)
+  unfolding callOf
+  level-called p e = rw (ne-eqb (c % 4) 0 (omega arith), ne-eqb (c % 4) 1 (omega arith), ne-eqb (c % 4) 2 (omega arith)) (level-acts text words after j h (c / 4) e)
 
-    pub scan-called : (c % 4 ≡ 3 → ⊥) → ScanGives j text words (c / 4) (eqb (c % 4) 1) h after → held (h .job) after ≡ act text (callOf c) (held j words)
-    unfolding callOf
-    scan-called m e = rw (ne-eqb (c % 4) 2 n, ne-eqb (c % 4) 3 m) (scan-acts text words after j h (c / 4) (eqb (c % 4) 1) e)
+  -- neither: the guess is 'inside' where the step is 1
+  pub scan-called : (c % 4 ≡ 2 → ⊥) → (c % 4 ≡ 3 → ⊥) → ScanGives j text words (c / 4) (eqb (c % 4) 1) h after → held (h .job) after ≡ act text (callOf c) (held j words)
+  unfolding callOf
+  scan-called n m e = go (ℕ-discrete (c % 4) 1)
+    where
+      go : Dec (c % 4 ≡ 1) → held (h .job) after ≡ act text (callOf c) (held j words)
+      go (yes p) = rw (ne-eqb (c % 4) 0 (omega arith), eq-eqb (c % 4) 1 p) (scan-acts text words after j h (c / 4) true (subst (λ (g : Bool). ScanGives j text words (c / 4) g h after) (eq-eqb (c % 4) 1 p) e))
+      go (no q) = rw (eq-eqb (c % 4) 0 (omega (arith, n, m, q))) (scan-acts text words after j h (c / 4) false (subst (λ (g : Bool). ScanGives j text words (c / 4) g h after) (ne-eqb (c % 4) 1 q) e))
 
 -- ---- a turn of each loop
 

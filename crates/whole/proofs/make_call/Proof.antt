@@ -30,7 +30,7 @@ returns-2 c =
     let a = c .before .before .before .before .before .before .before .before .before .args in
     let s = c .before .before .before .level in
     let i = c .before .before .before .before .before in
-    level-called _ _ _ (a .job) (s .result) (a .call) (i .before .if1 .left) (i .if2 .taken) (s .ensures)
+    level-called _ _ _ (a .job) (s .result) (a .call) (i .if2 .taken) (s .ensures)
 
 scan-requires : tie.Need-scan-requires
 scan-requires c κs = search needs
