@@ -26,12 +26,17 @@ static size_t read_record(const char *name, uint8_t *record) {
     return n;
 }
 
-/* Ends the program where a number is not 0. */
-static void check(uint64_t number, size_t place) {
-    if (number != 0) {
-        fprintf(stderr, "ask: number %u, place %lu\n", (unsigned)number, (unsigned long)place);
-        exit(number < 20 ? 2 : 1);
+/* Ends the program where a number is not 0. A step of 0 is none. */
+static void check(uint64_t number, size_t place, size_t step) {
+    if (number == 0) {
+        return;
     }
+    fprintf(stderr, "ask: number %u, place %lu", (unsigned)number, (unsigned long)place);
+    if (step != 0) {
+        fprintf(stderr, ", step %lu", (unsigned long)step);
+    }
+    fputc('\n', stderr);
+    exit(number < 20 ? 2 : 1);
 }
 
 int main(int count, char **arguments) {
@@ -39,7 +44,7 @@ int main(int count, char **arguments) {
     uint8_t *record = malloc(WARARISH_LIMIT + 1);
     uint64_t *words = malloc(most * sizeof *words);
     const size_t no_cuts = 0;
-    size_t n, word_count, place, size;
+    size_t n, word_count, place, size, step;
     uint64_t number;
 
     if (count != 3) {
@@ -54,11 +59,11 @@ int main(int count, char **arguments) {
     word_count = n <= WARARISH_LIMIT ? WARARISH_WORDS(LEVELS, n) : 0;
 
     number = wararish_index(record, n, words, word_count, LEVELS, &no_cuts, 0, &place);
-    check(number, place);
+    check(number, place, 0);
 
     number = wararish_query(record, n, words, word_count, LEVELS, (const uint8_t *)arguments[1],
-                            strlen(arguments[1]), &place, &size);
-    check(number, place);
+                            strlen(arguments[1]), &place, &size, &step);
+    check(number, place, step);
 
     fwrite(record + place, 1, size, stdout);
     putchar('\n');

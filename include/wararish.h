@@ -7,13 +7,13 @@
  *
  * What the caller owes, for each function. Nothing checks it:
  *   - no pointer is NULL, also where its length is 0 (point at any object then);
- *   - each length is the true one, in elements, and words, cuts, place and size are aligned as
- *     their types are;
- *   - words (where they are written), place and size overlap nothing else that is handed in;
+ *   - each length is the true one, in elements, and words, cuts, place, size and step are aligned
+ *     as their types are;
+ *   - words (where they are written), place, size and step overlap nothing else that is handed in;
  *   - nobody else writes the record, cuts, calls, path or the words of a query while a call runs,
  *     or reads or writes what the call writes.
  * All else is checked by the proved code: what it cannot do it refuses, with a number of the table
- * below, and writes no word then, but for 12. Place and size are always written.
+ * below, and writes no word then, but for 12. Place, size and step are always written.
  *
  *    0      done; for a query: found
  *    1  2   the record is empty; above WARARISH_LIMIT bytes
@@ -30,8 +30,12 @@
  *           than there are levels
  *   23 24   the value is not an object; not an array
  *   25 26   no such name; no such number
- *   27      a broken item
- * Where a number tells no place, place is 0.
+ *   27 28   a broken item: it has no colon; its name is no quoted string
+ *   29      a broken item: it is taken, and its value is empty; or the record is blank all through
+ *           (place and step: 0)
+ * 23 to 29 tell the step of the path, from 1, and a place in the record: for 23 to 26 the first
+ * byte of the value that the step works in, for a broken item the byte behind the bracket or comma
+ * before it. Where a number tells no place, place is 0, and where it tells no step, step is 0.
  */
 #ifndef WARARISH_H
 #define WARARISH_H
@@ -80,12 +84,12 @@ uint64_t wararish_run(const uint8_t *record, size_t record_length,
 /* Asks a record for a path: $, then steps .name or [number]. The words are those that were made of
  * this record with these levels, and they are only read; by others it answers as their bits say.
  * Gives 0, with where the part begins and how many bytes it has: it is a part of the record itself.
- * Else gives 1 to 4 or 20 to 27, and size is 0. */
+ * Else gives 1 to 4 or 20 to 29, and size is 0; step is 0 but for 23 to 29. */
 uint64_t wararish_query(const uint8_t *record, size_t record_length,
                         const uint64_t *words, size_t words_length,
                         size_t levels,
                         const uint8_t *path, size_t path_length,
-                        size_t *place, size_t *size);
+                        size_t *place, size_t *size, size_t *step);
 
 #ifdef __cplusplus
 }

@@ -104,12 +104,14 @@ impl Case {
         self.digest = self.words[..lent].iter().fold(self.digest, |digest, &word| mix(digest, word));
     }
 
-    /// Of a query: where the part lies, and the low half of a digest of its bytes. A refused query's part is empty.
-    fn told_part(&mut self, (number, start, end): Found, record: &[u8]) {
+    /// Of a query: where the part lies or the place it tells, its step, and the low half of a digest of the part's bytes. A
+    /// refused query's part is empty.
+    fn told_part(&mut self, found: Found, record: &[u8]) {
+        let Found { number, start, end, step } = found;
         self.seen[number as usize] += 1;
         let part = if number == 0 { &record[start..end] } else { &record[..0] };
         let digest = part.iter().fold(0, |digest, &byte| mix(digest, u64::from(byte)));
-        self.line.push_str(&format!(" {number}@{start}+{}:{:08x}", part.len(), digest as u32));
+        self.line.push_str(&format!(" {number}@{start}/{step}+{}:{:08x}", part.len(), digest as u32));
     }
 
     pub fn open(&mut self, flag: u8, levels: usize, cuts: &[usize]) -> Answer {
@@ -194,5 +196,37 @@ impl Case {
         self.head(b'E', 0, 0, 0, 0);
         let digest = self.digest;
         self.line.push_str(&format!(" {digest:016x}\n"));
+    }
+}
+
+/// Number and step of each query, read off a line.
+#[cfg(test)]
+pub fn queries(line: &str) -> Vec<(u64, usize)> {
+    let told = |word: &str| {
+        let (number, rest) = word.split_once('@')?;
+        let (_, behind) = rest.split_once('/')?;
+        let (step, _) = behind.split_once('+')?;
+        Some((number.parse().ok()?, step.parse().ok()?))
+    };
+    line.split_whitespace().filter_map(told).collect()
+}
+
+#[cfg(test)]
+mod tests {
+    use super::*;
+
+    #[test]
+    fn a_query_tells_number_place_step_and_part() {
+        let mut case = Case::new();
+        case.set_record(b" [1,]");
+        case.plain_run(1, &[], |_| false);
+        let before = case.line.len();
+        for path in ["$[0]", "$[1]", "$.a", "$.", "$[0][0]"] {
+            case.query(0, 1, path.as_bytes());
+        }
+        let told: Vec<&str> = case.line[before..].split_whitespace().collect();
+        assert!(told[0].starts_with("0@2/0+1:") && !told[0].ends_with(":00000000"), "{}", told[0]);
+        assert_eq!(told[1..], ["29@4/1+0:00000000", "23@1/1+0:00000000", "20@2/0+0:00000000", "22@0/0+0:00000000"]);
+        assert_eq!(queries(&case.line), [(0, 0), (29, 1), (23, 1), (20, 0), (22, 0)]);
     }
 }

@@ -1,10 +1,11 @@
-//! Which cases there are: the reports of the scope document, a list for each thing that has gone wrong before, random ones, and
-//! runs that stray.
+//! Which cases there are: the reports of the documents, a list for each thing that has gone wrong before, lists of misses and
+//! broken items, random ones, and runs that stray.
 
+use crate::broken;
 use crate::case::{size, Case, SHORT_RECORD, SHORT_WORDS};
 use crate::job::{State, Step};
 use crate::random::Random;
-use crate::records::{brackets, damaged, deep, json, noise, path, wrapped, Text};
+use crate::records::{self, brackets, damaged, deep, json, noise, path, wrapped, Text};
 use crate::reports;
 use crate::rules::width;
 use crate::strays;
@@ -142,7 +143,7 @@ fn sizes(random: &mut Random) -> Vec<Case> {
 
 pub fn text(random: &mut Random) -> Text {
     let room = *random.pick(&[4, 20, 60, 60, 120, 120, 250, 500, 1200]);
-    match random.below(12) {
+    match random.below(13) {
         0..=5 => json(random, room),
         6 => {
             let inner = json(random, room / 2);
@@ -161,6 +162,12 @@ pub fn text(random: &mut Random) -> Text {
             let depth = 61 + random.below(7);
             let extra = *random.pick(&[0, 0, 0, 1, -1]);
             deep(random, depth, extra)
+        }
+        11 => {
+            let inner = json(random, room / 2);
+            let times = 1 + random.below(3);
+            let whole = wrapped(random, inner, times);
+            records::broken(random, whole)
         }
         _ => {
             let inner = json(random, room);
@@ -334,6 +341,7 @@ fn beyond() -> Case {
 pub fn inputs(seed: u64, count: usize) -> Vec<Vec<u8>> {
     let mut random = Random::new(seed);
     let mut list = vec![Vec::new(), b"$".to_vec(), b"\n".to_vec(), b"$\n".to_vec(), b"\n[]".to_vec(), b"$[\n]".to_vec(), b"$.\n[]".to_vec()];
+    list.extend(reports::inputs());
     let filled = |path: usize, feed: bool, record: usize| {
         let mut input = vec![b'$'; path.min(1)];
         while input.len() + 3 <= path {
@@ -386,5 +394,35 @@ pub fn all(seed: u64, count: usize, with_beyond: bool) -> impl Iterator<Item = C
     listed.extend(borders());
     listed.extend(faults());
     listed.extend(sizes(&mut random));
+    listed.extend(reports::cases_of_request_one());
+    listed.extend(broken::all());
     listed.into_iter().chain((0..count).map(move |_| random_case(&mut random))).chain(strays::all(seed, count / 8))
+}
+
+#[cfg(test)]
+mod tests {
+    use super::*;
+    use crate::case::queries;
+    use crate::path::line;
+
+    #[test]
+    fn the_showing_program_has_a_line_of_every_number_it_prints() {
+        let lines: Vec<String> = inputs(3, 200).iter().map(|input| line(input)).collect();
+        for number in [0, 1, 2, 13, 14, 15, 16, 20, 21, 22, 23, 24, 25, 26, 27, 28, 29] {
+            let first = format!("{number} ");
+            assert!(lines.iter().any(|line| line.starts_with(&first)), "no line has the number {number}");
+        }
+    }
+
+    #[test]
+    fn random_cases_meet_every_miss_and_every_broken_item_at_every_step() {
+        let mut random = Random::new(9);
+        let told: Vec<(u64, usize)> = (0..10_000).flat_map(|_| queries(&random_case(&mut random).line)).collect();
+        for number in 23..=29 {
+            for step in 1..=3 {
+                let times = told.iter().filter(|&&one| one == (number, step)).count();
+                assert!(times >= 5, "{number} was given {times} times at step {step}");
+            }
+        }
+    }
 }

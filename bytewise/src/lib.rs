@@ -1,9 +1,10 @@
-//! The byte-by-byte reading of the scope document and of the contracts, for the program `bytewise` and for tests and
+//! The byte-by-byte reading of the documents and of the contracts, for the program `bytewise` and for tests and
 //! measurements that compare with it.
 
 // without the dereference, `pick` would be taken to choose among unsized slices
 #![allow(clippy::explicit_auto_deref)]
 
+pub mod broken;
 pub mod case;
 pub mod cases;
 pub mod contract;

@@ -1,4 +1,4 @@
-//! Section 'Paths': reading a path, and the walk by the bits that are lent.
+//! Section 'Paths' as request One amends it: reading a path, the walk by the bits that are lent, and what a refusal tells.
 
 use crate::rules::{get_bit, width, Bitmap};
 
@@ -7,11 +7,29 @@ pub enum Step {
     Number(u64),
 }
 
-/// What a query gives: the number, and where the part lies. A refusal has the empty part; 20 has its place.
-pub type Found = (u64, usize, usize);
+/// What a query tells. A refusal has the empty part, and the place it tells is both start and end: of 20 in the path, of 23 to
+/// 29 in the record, else 0.
+#[derive(Clone, Copy, Debug, PartialEq, Eq)]
+pub struct Found {
+    pub number: u64,
+    pub start: usize,
+    pub end: usize,
+    /// Of 23 to 29 the path step, from 1; of an all-blank record and all else 0.
+    pub step: usize,
+}
 
-fn refused(number: u64) -> Found {
-    (number, 0, 0)
+pub const fn part(start: usize, end: usize) -> Found {
+    Found { number: 0, start, end, step: 0 }
+}
+
+/// A refusal that tells neither step nor place.
+pub const fn refused(number: u64) -> Found {
+    told(number, 0, 0)
+}
+
+/// A refusal that tells a place, and from 23 on the path step.
+pub const fn told(number: u64, step: usize, place: usize) -> Found {
+    Found { number, start: place, end: place, step }
 }
 
 #[derive(Clone, Copy, PartialEq)]
@@ -71,8 +89,11 @@ fn is_blank(byte: u8) -> bool {
     matches!(byte, b' ' | b'\t' | b'\n' | b'\r')
 }
 
+/// From the first of two places up to the other, which is not included.
+type Span = (usize, usize);
+
 /// Without blanks at its ends.
-fn trim(record: &[u8], mut a: usize, mut e: usize) -> (usize, usize) {
+fn trim(record: &[u8], (mut a, mut e): Span) -> Span {
     while a < e && is_blank(record[a]) {
         a += 1;
     }
@@ -83,7 +104,7 @@ fn trim(record: &[u8], mut a: usize, mut e: usize) -> (usize, usize) {
 }
 
 /// What lies between a value's first and last byte, cut at the commas of level k.
-fn items(record: &[u8], words: &[u64], k: usize, a: usize, e: usize) -> Vec<(usize, usize)> {
+fn items(record: &[u8], words: &[u64], k: usize, (a, e): Span) -> Vec<Span> {
     if (a + 1..e - 1).all(|i| is_blank(record[i])) {
         return Vec::new();
     }
@@ -99,49 +120,68 @@ fn items(record: &[u8], words: &[u64], k: usize, a: usize, e: usize) -> Vec<(usi
     items
 }
 
-/// The part, or 27 where it is empty.
-fn part(record: &[u8], a: usize, e: usize) -> Result<(usize, usize), u64> {
-    let (a, e) = trim(record, a, e);
+/// What is left without end blanks; 29 where that is nothing.
+fn value(record: &[u8], span: Span) -> Result<Span, u64> {
+    let (a, e) = trim(record, span);
     if a < e {
         Ok((a, e))
     } else {
-        Err(27)
+        Err(29)
     }
 }
 
-/// Whether an item has the name, and then its value; 27 where it is broken.
-fn named(record: &[u8], words: &[u64], k: usize, name: &[u8], x: usize, y: usize) -> Result<Option<(usize, usize)>, u64> {
+/// The value of an item that has the name. What breaks the item, in this order: 27, 28, and if the item is taken 29.
+fn named(record: &[u8], words: &[u64], k: usize, name: &[u8], (x, y): Span) -> Result<Option<Span>, u64> {
     let n = record.len();
     let quote = |i: usize| get_bit(words, n, Bitmap::Quotes, i);
     let colon = (x..y).find(|&i| get_bit(words, n, Bitmap::Colons(k), i)).ok_or(27u64)?;
-    let (a, e) = trim(record, x, colon);
+    let (a, e) = trim(record, (x, colon));
     if e - a < 2 || !quote(a) || !quote(e - 1) || (a + 1..e - 1).any(quote) {
-        return Err(27);
+        return Err(28);
     }
     if &record[a + 1..e - 1] != name {
         return Ok(None);
     }
-    part(record, colon + 1, y).map(Some)
+    value(record, (colon + 1, y)).map(Some)
 }
 
-fn walk_step(record: &[u8], words: &[u64], k: usize, step: &Step, a: usize, e: usize) -> Result<(usize, usize), u64> {
+/// The first item with the name. A broken one is told at the byte after the bracket or comma before it, where it begins.
+fn name_step(record: &[u8], words: &[u64], k: usize, name: &[u8], within: Span) -> Result<Span, Found> {
+    for item in items(record, words, k, within) {
+        if let Some(value) = named(record, words, k, name, item).map_err(|number| told(number, k, item.0))? {
+            return Ok(value);
+        }
+    }
+    Err(told(25, k, within.0))
+}
+
+/// The item with the number, and no look at any other.
+fn number_step(record: &[u8], words: &[u64], k: usize, m: u64, within: Span) -> Result<Span, Found> {
+    match items(record, words, k, within).get(m as usize) {
+        None => Err(told(26, k, within.0)),
+        Some(&item) => value(record, item).map_err(|number| told(number, k, item.0)),
+    }
+}
+
+/// Step k, within a value. A miss is told at the first byte of that value.
+fn walk_step(record: &[u8], words: &[u64], k: usize, step: &Step, within: Span) -> Result<Span, Found> {
+    let (a, e) = within;
     let framed = |first: u8, last: u8| e - a >= 2 && record[a] == first && record[e - 1] == last;
     match step {
-        Step::Name(_) if !framed(b'{', b'}') => Err(23),
-        Step::Number(_) if !framed(b'[', b']') => Err(24),
-        Step::Name(name) => {
-            for (x, y) in items(record, words, k, a, e) {
-                if let Some(value) = named(record, words, k, name, x, y)? {
-                    return Ok(value);
-                }
-            }
-            Err(25)
-        }
-        Step::Number(m) => match items(record, words, k, a, e).get(*m as usize) {
-            None => Err(26),
-            Some(&(x, y)) => part(record, x, y),
-        },
+        Step::Name(_) if !framed(b'{', b'}') => Err(told(23, k, a)),
+        Step::Number(_) if !framed(b'[', b']') => Err(told(24, k, a)),
+        Step::Name(name) => name_step(record, words, k, name, within),
+        Step::Number(m) => number_step(record, words, k, *m, within),
     }
+}
+
+/// From the record without end blanks, a step at a time; an all-blank record has step 0, place 0.
+fn walk(record: &[u8], words: &[u64], steps: &[Step]) -> Result<Span, Found> {
+    let mut span = value(record, (0, record.len())).map_err(refused)?;
+    for (i, step) in steps.iter().enumerate() {
+        span = walk_step(record, words, i + 1, step, span)?;
+    }
+    Ok(span)
 }
 
 /// 1, 2, 3, 4, path length (21), 20, number size (21), 22, then the walk.
@@ -163,7 +203,7 @@ pub fn query(record: &[u8], words: &[u64], levels: usize, path: &[u8]) -> Found 
         return refused(21);
     }
     let steps = match read(path) {
-        Err(place) => return (20, place, place),
+        Err(place) => return told(20, 0, place),
         Ok(steps) => steps,
     };
     if steps.iter().any(|s| matches!(s, Step::Number(m) if *m > 16_777_215)) {
@@ -172,23 +212,19 @@ pub fn query(record: &[u8], words: &[u64], levels: usize, path: &[u8]) -> Found 
     if steps.len() > levels {
         return refused(22);
     }
-    let mut value = match part(record, 0, n) {
-        Err(number) => return refused(number),
-        Ok(value) => value,
-    };
-    for (i, step) in steps.iter().enumerate() {
-        value = match walk_step(record, words, i + 1, step, value.0, value.1) {
-            Err(number) => return refused(number),
-            Ok(value) => value,
-        };
+    match walk(record, words, &steps) {
+        Ok((start, end)) => part(start, end),
+        Err(refusal) => refusal,
     }
-    (0, value.0, value.1)
 }
 
-/// The line that the showing program prints.
+/// The line that the showing program prints. For 23 to 29 it goes on printing 0 0.
 pub fn line(input: &[u8]) -> String {
-    let (number, start, end) = shown(input);
-    format!("{number} {start} {end}\n")
+    let Found { number, start, end, .. } = shown(input);
+    match number {
+        23..=29 => format!("{number} 0 0\n"),
+        _ => format!("{number} {start} {end}\n"),
+    }
 }
 
 fn shown(input: &[u8]) -> Found {
@@ -214,7 +250,7 @@ fn shown(input: &[u8]) -> Found {
     for step in [crate::job::Step::Scan, crate::job::Step::Settle, crate::job::Step::Level] {
         let (number, place) = job.step(step, &mut words, 0, false);
         if number != 0 {
-            return (number, place, place);
+            return told(number, 0, place);
         }
     }
     query(record, &words, 4, path)

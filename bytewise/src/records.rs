@@ -1,6 +1,7 @@
-//! Records: JSON texts with the paths to their values, damaged ones, and plain noise.
+//! Records: JSON texts with the paths to their values, damaged ones, ones with a broken item, and plain noise.
 
 use crate::random::Random;
+use crate::rules::truth;
 
 const NAMES: [&str; 9] = ["a", "b", "c", "ab", "_x", "reel_1", "A9", "_", "loud"];
 
@@ -126,6 +127,23 @@ pub fn damaged(random: &mut Random, mut text: Text) -> Text {
             }
             _ => {}
         }
+    }
+    text
+}
+
+/// An item broken at a colon or comma outside strings, with all brackets and strings sound: no colon, a bad name, an empty value.
+pub fn broken(random: &mut Random, mut text: Text) -> Text {
+    let mask = truth(&text.bytes).mask;
+    let places: Vec<usize> = (0..text.bytes.len()).filter(|&i| !mask[i] && matches!(text.bytes[i], b':' | b',')).collect();
+    if places.is_empty() {
+        return text;
+    }
+    let at = *random.pick(&places);
+    match random.below(4) {
+        0 => text.bytes[at] = b' ',
+        1 => text.bytes.insert(at, b'x'),
+        2 => text.bytes.insert(at, b','),
+        _ => text.bytes.insert(at + 1, b','),
     }
     text
 }

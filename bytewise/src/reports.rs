@@ -1,11 +1,11 @@
-//! Section 'Reports to try' of the scope, and what else it shows by example, in its literal numbers: whatever is read here was
-//! copied from the document and never from a program's answer. A case of a report asserts them, so that a misreading is noticed
-//! also where both programs share it.
+//! Section 'Reports to try' of the scope, and what else it shows by example, in its literal numbers and as request One amends
+//! them; and that request's sentences, worked out by hand on small records. Whatever is read here is from the documents and never
+//! from a program's answer. A case of a report asserts it, so that a misreading is noticed also where both programs share it.
 
 use std::fmt::Debug;
 
 use crate::case::Case;
-use crate::path::{line, Found};
+use crate::path::{line, part, refused, told, Found};
 use crate::records::brackets;
 use crate::rules::{truth, width, Fault};
 
@@ -13,6 +13,8 @@ use crate::rules::{truth, width, Fault};
 pub type Words = &'static [(Bitmap, &'static [u64])];
 pub type Bitmap = (&'static str, usize);
 pub type Paths = &'static [(&'static str, Found)];
+/// A report's name, L, its record, and what its paths find.
+type Row = (&'static str, usize, &'static [u8], Paths);
 
 pub struct Report {
     pub name: &'static str,
@@ -23,7 +25,7 @@ pub struct Report {
     pub fault: Option<Fault>,
     pub words: Words,
     pub paths: Paths,
-    /// Paths of which the document says nothing.
+    /// Paths of which the documents say nothing.
     also: &'static [&'static str],
     /// How many combinations of guesses are tried.
     pub guesses: u64,
@@ -31,6 +33,10 @@ pub struct Report {
 
 fn report(name: &'static str, record: &[u8]) -> Report {
     Report { name, record: record.to_vec(), levels: 1, cuts: &[], fault: None, words: &[], paths: &[], also: &[], guesses: 1 }
+}
+
+fn of_rows(rows: &[Row]) -> Vec<Report> {
+    rows.iter().map(|&(name, levels, record, paths)| Report { levels, paths, ..report(name, record) }).collect()
 }
 
 const RECORD_4: &[u8] = br#"{"a":[1,2],"b":{"c":3}}"#;
@@ -49,25 +55,73 @@ const WORDS_4: Words = &[(COLONS_1, &[16400]), (COLONS_2, &[524288]), (COMMAS_1,
 const WORDS_5: Words = &[(QUOTES, &[1 << 62, 8]), (MASK, &[1 << 63, 15])];
 
 const PATHS_12: Paths = &[
-    ("$", (0, 0, 23)),
-    ("$.b.c", (0, 20, 21)),
-    ("$.a[1]", (0, 8, 9)),
-    ("$.c", (25, 0, 0)),
-    ("$.a.x", (23, 0, 0)),
-    ("$[0]", (24, 0, 0)),
-    ("$.a[2]", (26, 0, 0)),
-    ("$.a[01]", (20, 5, 5)),
-    ("$.", (20, 2, 2)),
+    ("$", part(0, 23)),
+    ("$.b.c", part(20, 21)),
+    ("$.a[1]", part(8, 9)),
+    ("$.c", told(25, 1, 0)),
+    ("$.a.x", told(23, 2, 5)),
+    ("$[0]", told(24, 1, 0)),
+    ("$.a[2]", told(26, 2, 5)),
+    ("$.a[01]", told(20, 0, 5)),
+    ("$.", told(20, 0, 2)),
 ];
 
-/// Reports 1 to 4, and the paths of record 4.
+/// Report 12 with L = 1, report 13, the showing program's example, and the record that is blank all through.
+const ROWS_13: &[Row] = &[
+    ("12, L = 1", 1, RECORD_4, &[("$.a[1]", refused(22))]),
+    ("13, [1,]", 1, b"[1,]", &[("$[1]", told(29, 1, 3)), ("$[2]", told(26, 1, 0))]),
+    ("13, {}", 1, b" {} ", &[("$", part(1, 3)), ("$.a", told(25, 1, 1))]),
+    ("13, repeated names", 1, br#"{"a":1,"a":2}"#, &[("$.a", part(5, 6))]),
+    ("of the showing program", 4, br#"{"a":1,"b":[2,30]}"#, &[("$.b[1]", part(14, 16))]),
+    ("of a blank record", 1, b"  \n ", &[("$", told(29, 0, 0))]),
+];
+
+/// Request One: the three broken items, their order within an item, and which items are looked at.
+const ROWS_BROKEN: &[Row] = &[
+    ("One, no colon", 3, br#"{"a"}"#, &[("$.a", told(27, 1, 1)), ("$.b", told(27, 1, 1))]),
+    ("One, a deeper colon", 3, br#"{"a"{"b":1}}"#, &[("$.a", told(27, 1, 1))]),
+    ("One, a colon in a string", 3, br#"{"a:1"}"#, &[("$.a", told(27, 1, 1))]),
+    ("One, no colon before bad name", 3, br#"{x,"a":1}"#, &[("$.x", told(27, 1, 1)), ("$.a", told(27, 1, 1))]),
+    ("One, a blank item of an object", 3, br#"{"b":1, ,"a":2}"#, &[("$.b", part(5, 6)), ("$.a", told(27, 1, 7))]),
+    ("One, a blank item at the end", 3, br#"{"b":1,}"#, &[("$.b", part(5, 6)), ("$.a", told(27, 1, 7))]),
+    ("One, two blank items", 3, b"{,}", &[("$.a", told(27, 1, 1))]),
+    ("One, no name", 3, b"{:1}", &[("$.a", told(28, 1, 1))]),
+    ("One, a name of two strings", 3, br#"{"a""b":1}"#, &[("$.a", told(28, 1, 1)), ("$.b", told(28, 1, 1))]),
+    ("One, bad name before empty value", 3, b"{x:}", &[("$.x", told(28, 1, 1)), ("$.a", told(28, 1, 1))]),
+    ("One, a bad name behind an item", 3, br#"{"b":1,x:2}"#, &[("$.b", part(5, 6)), ("$.x", told(28, 1, 7)), ("$.a", told(28, 1, 7))]),
+    ("One, the first broken item", 3, br#"{x:1,"a"}"#, &[("$.a", told(28, 1, 1))]),
+    ("One, 29 for the item taken", 3, br#"{"b":,"a":1}"#, &[("$.a", part(10, 11)), ("$.b", told(29, 1, 1)), ("$.c", told(25, 1, 0))]),
+    ("One, 29 for the first of a name", 3, br#"{"a":,"a":1}"#, &[("$.a", told(29, 1, 1))]),
+    ("One, empty array items", 3, b"[,]", &[("$[0]", told(29, 1, 1)), ("$[1]", told(29, 1, 2)), ("$[2]", told(26, 1, 0))]),
+    ("One, a blank array item", 3, b"[1, ,2]", &[("$[0]", part(1, 2)), ("$[1]", told(29, 1, 3)), ("$[2]", part(5, 6))]),
+    ("One, a number looks at no name", 3, br#"[,x:,{"a"}]"#, &[("$[1]", part(2, 4)), ("$[2]", part(5, 10)), ("$[2].a", told(27, 2, 6))]),
+];
+
+/// Request One: the places, with blanks about values and items, and the steps.
+const ROWS_PLACES: &[Row] = &[
+    ("One, blanks before a bad name", 3, b" {  x :1}", &[("$.x", told(28, 1, 2))]),
+    ("One, blanks before no colon", 3, br#"{"b":1,  "a"}"#, &[("$.a", told(27, 1, 7))]),
+    ("One, blanks before a name without value", 3, br#"{ "a" : , "b":1}"#, &[("$.a", told(29, 1, 1)), ("$.b", part(14, 15))]),
+    ("One, blanks in an array", 3, b"[ 1 ,  ]", &[("$[1]", told(29, 1, 5)), ("$[2]", told(26, 1, 0)), ("$.a", told(23, 1, 0))]),
+    ("One, blanks and no items", 3, b"\t[ ]", &[("$[0]", told(26, 1, 1)), ("$.a", told(23, 1, 1))]),
+    ("One, blanks before the record", 3, br#"  {"a":1} "#, &[("$.b", told(25, 1, 2)), ("$[0]", told(24, 1, 2))]),
+    ("One, a value of one byte", 3, br#"  {"a":1} "#, &[("$.a.b", told(23, 2, 7)), ("$.a[0]", told(24, 2, 7))]),
+    ("One, blanks before a value", 3, br#"{"a":  [1] }"#, &[("$.a[1]", told(26, 2, 7)), ("$.a.b", told(23, 2, 7)), ("$.a[0].b", told(23, 3, 8))]),
+    ("One, step 2", 3, br#"[1,{"b":,x:1}]"#, &[("$[1].b", told(29, 2, 4)), ("$[1].a", told(28, 2, 9)), ("$[1][0]", told(24, 2, 3))]),
+    ("One, step 3, no colon", 3, br#"{"a":[{"b" , }]}"#, &[("$.a[0].b", told(27, 3, 7)), ("$.a[0][0]", told(24, 3, 6))]),
+    ("One, step 3, bad name", 3, br#"{"a":{"b":{x:1}}}"#, &[("$.a.b.x", told(28, 3, 11)), ("$.a.c", told(25, 2, 5)), ("$.a.b", part(10, 15))]),
+    ("One, step 3, empty value", 3, b"[[ [1,] ]]", &[("$[0][0][1]", told(29, 3, 6)), ("$[0][0][2]", told(26, 3, 3)), ("$[0][1]", told(26, 2, 1))]),
+    ("One, a blank record", 1, b"\r\n", &[("$.a", told(29, 0, 0)), ("$[0]", told(29, 0, 0))]),
+    ("One, a blank record after 20 to 22", 1, b" ", &[("$.", told(20, 0, 2)), ("$[16777216]", refused(21)), ("$.a.b", refused(22))]),
+];
+
+/// Reports 1 to 4, and the paths of record 4 with L = 2.
 fn words() -> Vec<Report> {
     vec![
         Report { words: WORDS_1, also: &["$.a"], ..report("1", br#"{"a":":,"}"#) },
         Report { words: WORDS_2, also: &["$[1]"], ..report("2", br#"["\\",1]"#) },
         Report { words: WORDS_2, also: &["$[1]"], ..report("3", br#"["\"",1]"#) },
         Report { levels: 2, words: WORDS_4, paths: PATHS_12, ..report("4 and 12", RECORD_4) },
-        Report { paths: &[("$.a[1]", (22, 0, 0))], ..report("12, L = 1", RECORD_4) },
     ]
 }
 
@@ -75,17 +129,6 @@ fn words() -> Vec<Report> {
 fn over_border() -> Vec<Report> {
     let record = [&[b' '; 62][..], br#""\"#, br#"" ,""#].concat();
     vec![Report { cuts: &[64], words: WORDS_5, also: &["$"], guesses: 4, ..report("5", &record) }]
-}
-
-/// Report 13, the showing program's example, and "blank all through is 27".
-fn paths() -> Vec<Report> {
-    vec![
-        Report { paths: &[("$[1]", (27, 0, 0)), ("$[2]", (26, 0, 0))], ..report("13, [1,]", b"[1,]") },
-        Report { paths: &[("$", (0, 1, 3))], also: &["$.a"], ..report("13, {}", b" {} ") },
-        Report { paths: &[("$.a", (0, 5, 6))], ..report("13, repeated names", br#"{"a":1,"a":2}"#) },
-        Report { levels: 4, paths: &[("$.b[1]", (0, 14, 16))], ..report("of the showing program", br#"{"a":1,"b":[2,30]}"#) },
-        Report { paths: &[("$", (27, 0, 0))], ..report("of a blank record", b"  \n ") },
-    ]
 }
 
 /// Reports 6 to 10.
@@ -107,7 +150,7 @@ fn deepest() -> Vec<Report> {
 
 impl Report {
     fn same<T: PartialEq + Debug>(&self, what: &str, got: T, said: T) {
-        assert!(got == said, "report {}: {what} is {got:?}, and the document says {said:?}", self.name);
+        assert!(got == said, "report {}: {what} is {got:?}, and the documents say {said:?}", self.name);
     }
 
     /// One for each combination of guesses.
@@ -137,16 +180,29 @@ impl Report {
     }
 }
 
-/// The lines that the section of the showing program has.
+/// The lines that the section of the showing program has, and that of 20 and of each number which goes on printing 0 0.
 fn check_lines() {
     let long = [&b"$\n"[..], &[b' '; 16_385]].concat();
-    let lines = [(&b"$.b[1]\n{\"a\":1,\"b\":[2,30]}"[..], "0 14 16\n"), (&[b'$'; 1025], "21 0 0\n"), (&long, "2 0 0\n")];
+    let lines: [(&[u8], &str); 12] = [
+        (b"$.b[1]\n{\"a\":1,\"b\":[2,30]}", "0 14 16\n"),
+        (&[b'$'; 1025], "21 0 0\n"),
+        (&long, "2 0 0\n"),
+        (b"$[01]\n[1]", "20 3 3\n"),
+        (b"$[0].a\n [1]", "23 0 0\n"),
+        (b"$[0]\n {}", "24 0 0\n"),
+        (b"$.a\n {}", "25 0 0\n"),
+        (b"$[0][1]\n [[1]]", "26 0 0\n"),
+        (b"$.a\n {x}", "27 0 0\n"),
+        (b"$.a\n {x:}", "28 0 0\n"),
+        (b"$[1]\n [1,]", "29 0 0\n"),
+        (b"$\n ", "29 0 0\n"),
+    ];
     for (input, said) in lines {
-        assert!(line(input) == said, "the showing program prints {:?}, and the document says {said:?}", line(input));
+        assert!(line(input) == said, "the showing program prints {:?}, and the documents say {said:?}", line(input));
     }
 }
 
-/// Every literal of the document.
+/// Every literal of the documents.
 pub fn check() {
     check_lines();
     for report in all() {
@@ -154,17 +210,40 @@ pub fn check() {
     }
 }
 
-/// The reports but 11, which stands in a list of depths.
+/// The scope's reports but 11, which stands in a list of depths.
 fn but_deepest() -> impl Iterator<Item = Report> {
-    words().into_iter().chain(paths()).chain(over_border()).chain(verdicts())
+    words().into_iter().chain(of_rows(ROWS_13)).chain(over_border()).chain(verdicts())
+}
+
+/// What request One tells, a row a sentence.
+fn of_request_one() -> impl Iterator<Item = Report> {
+    of_rows(ROWS_BROKEN).into_iter().chain(of_rows(ROWS_PLACES))
 }
 
 /// Every report.
 pub fn all() -> impl Iterator<Item = Report> {
-    but_deepest().chain(deepest())
+    but_deepest().chain(deepest()).chain(of_request_one())
 }
 
-/// As cases; those of 11 stand in that list.
+/// The scope's as cases; those of 11 stand in that list.
 pub fn cases() -> Vec<Case> {
     but_deepest().flat_map(|report| report.cases()).collect()
+}
+
+/// Request One's as cases.
+pub fn cases_of_request_one() -> Vec<Case> {
+    of_request_one().flat_map(|report| report.cases()).collect()
+}
+
+/// Every path with its record, as the showing program reads them.
+pub fn inputs() -> impl Iterator<Item = Vec<u8>> {
+    all().flat_map(|report| report.paths.iter().map(move |(path, _)| [path.as_bytes(), b"\n", &report.record].concat()))
+}
+
+#[cfg(test)]
+mod tests {
+    #[test]
+    fn every_literal_of_the_documents() {
+        super::check();
+    }
 }

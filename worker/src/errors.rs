@@ -39,6 +39,42 @@ pub enum IndexError {
     Fault(FaultKind, usize),
 }
 
+/// What a step misses in the value it works in.
+#[derive(Clone, Copy, Debug, PartialEq, Eq)]
+#[non_exhaustive]
+pub enum MissKind {
+    /// 23: a name is asked of what is not an object.
+    NotAnObject,
+    /// 24: a number is asked of what is not an array.
+    NotAnArray,
+    /// 25
+    NoSuchName,
+    /// 26
+    NoSuchNumber,
+}
+
+/// What is wrong with an item that a step meets.
+#[derive(Clone, Copy, Debug, PartialEq, Eq)]
+#[non_exhaustive]
+pub enum BrokenKind {
+    /// 27: an object's item without a colon.
+    NoColon,
+    /// 28: what stands before its colon is no quoted string.
+    BadName,
+    /// 29: the item is taken, and its value is empty; or the record is blank all through.
+    EmptyValue,
+}
+
+/// Where the walk along a path ends.
+#[derive(Clone, Copy, Debug, PartialEq, Eq)]
+pub struct Where {
+    /// The step of the path, from 1; 0 where the record is blank all through, since no step is taken then.
+    pub step: usize,
+    /// In the record: of a miss the first byte of the value that the step works in, of a broken item the byte behind the
+    /// bracket or comma before it.
+    pub place: usize,
+}
+
 /// Why a path leads to no part of the record.
 #[derive(Clone, Copy, Debug, PartialEq, Eq)]
 #[non_exhaustive]
@@ -49,16 +85,10 @@ pub enum AskError {
     PathTooLarge,
     /// 22
     TooManySteps,
-    /// 23
-    NotAnObject,
-    /// 24
-    NotAnArray,
-    /// 25
-    NoSuchName,
-    /// 26
-    NoSuchNumber,
-    /// 27
-    BrokenItem,
+    /// 23 to 26: the record has no such part.
+    Miss(MissKind, Where),
+    /// 27 to 29: the walk meets a broken item.
+    Broken(BrokenKind, Where),
 }
 
 impl FaultKind {
@@ -68,6 +98,27 @@ impl FaultKind {
             FaultKind::TooDeep => 14,
             FaultKind::StringOpen => 15,
             FaultKind::BracketOpen => 16,
+        }
+    }
+}
+
+impl MissKind {
+    pub fn number(self) -> u64 {
+        match self {
+            MissKind::NotAnObject => 23,
+            MissKind::NotAnArray => 24,
+            MissKind::NoSuchName => 25,
+            MissKind::NoSuchNumber => 26,
+        }
+    }
+}
+
+impl BrokenKind {
+    pub fn number(self) -> u64 {
+        match self {
+            BrokenKind::NoColon => 27,
+            BrokenKind::BadName => 28,
+            BrokenKind::EmptyValue => 29,
         }
     }
 }
@@ -120,18 +171,21 @@ impl IndexError {
 
 impl AskError {
     /// What a query over an index told: nothing where it has found a part.
-    pub(crate) fn told(number: u64, place: usize) -> Result<(), AskError> {
+    pub(crate) fn told(number: u64, place: usize, step: usize) -> Result<(), AskError> {
+        let at = Where { step, place };
         Err(match number {
             0 => return Ok(()),
             20 => AskError::NoPath(place),
             21 => AskError::PathTooLarge,
             22 => AskError::TooManySteps,
-            23 => AskError::NotAnObject,
-            24 => AskError::NotAnArray,
-            25 => AskError::NoSuchName,
-            26 => AskError::NoSuchNumber,
-            27 => AskError::BrokenItem,
-            _ => unreachable!("a query over an index tells 0 or 20 to 27, not {number}"),
+            23 => AskError::Miss(MissKind::NotAnObject, at),
+            24 => AskError::Miss(MissKind::NotAnArray, at),
+            25 => AskError::Miss(MissKind::NoSuchName, at),
+            26 => AskError::Miss(MissKind::NoSuchNumber, at),
+            27 => AskError::Broken(BrokenKind::NoColon, at),
+            28 => AskError::Broken(BrokenKind::BadName, at),
+            29 => AskError::Broken(BrokenKind::EmptyValue, at),
+            _ => unreachable!("a query over an index tells 0 or 20 to 29, not {number}"),
         })
     }
 
@@ -140,30 +194,36 @@ impl AskError {
             AskError::NoPath(_) => 20,
             AskError::PathTooLarge => 21,
             AskError::TooManySteps => 22,
-            AskError::NotAnObject => 23,
-            AskError::NotAnArray => 24,
-            AskError::NoSuchName => 25,
-            AskError::NoSuchNumber => 26,
-            AskError::BrokenItem => 27,
+            AskError::Miss(kind, _) => kind.number(),
+            AskError::Broken(kind, _) => kind.number(),
         }
     }
 
-    /// The place in the path, for 20; else 0.
+    /// For 20 the place in the path, for 23 to 29 the place in the record; else 0.
     pub fn place(self) -> usize {
         match self {
             AskError::NoPath(place) => place,
+            AskError::Miss(_, at) | AskError::Broken(_, at) => at.place,
+            _ => 0,
+        }
+    }
+
+    /// For 23 to 29 the step of the path, from 1; else 0, and where the record is blank all through.
+    pub fn step(self) -> usize {
+        match self {
+            AskError::Miss(_, at) | AskError::Broken(_, at) => at.step,
             _ => 0,
         }
     }
 
     /// The path is good, and the record has no such part (23 to 26).
     pub fn is_miss(self) -> bool {
-        matches!(self, AskError::NotAnObject | AskError::NotAnArray | AskError::NoSuchName | AskError::NoSuchNumber)
+        matches!(self, AskError::Miss(..))
     }
 
-    /// The walk met an item that is broken (27).
+    /// The walk met an item that is broken, or the record is blank all through (27 to 29).
     pub fn is_broken_item(self) -> bool {
-        self == AskError::BrokenItem
+        matches!(self, AskError::Broken(..))
     }
 
     /// The path itself is refused (20 to 22).
@@ -179,6 +239,27 @@ impl fmt::Display for FaultKind {
             FaultKind::TooDeep => "a bracket is opened where 64 are open",
             FaultKind::StringOpen => "a string is open at the end of the record",
             FaultKind::BracketOpen => "a bracket is open at the end of the record",
+        })
+    }
+}
+
+impl fmt::Display for MissKind {
+    fn fmt(&self, f: &mut fmt::Formatter) -> fmt::Result {
+        f.write_str(match self {
+            MissKind::NotAnObject => "the value is not an object",
+            MissKind::NotAnArray => "the value is not an array",
+            MissKind::NoSuchName => "the object has no such name",
+            MissKind::NoSuchNumber => "the array has no such number",
+        })
+    }
+}
+
+impl fmt::Display for BrokenKind {
+    fn fmt(&self, f: &mut fmt::Formatter) -> fmt::Result {
+        f.write_str(match self {
+            BrokenKind::NoColon => "a broken item without a colon",
+            BrokenKind::BadName => "a broken item whose name is no quoted string",
+            BrokenKind::EmptyValue => "a broken item whose value is empty",
         })
     }
 }
@@ -206,11 +287,9 @@ impl fmt::Display for AskError {
             AskError::NoPath(place) => write!(f, "this is no path, from byte {place} of it on"),
             AskError::PathTooLarge => f.write_str("the path is above 1,024 bytes, or a number in it above 16,777,215"),
             AskError::TooManySteps => f.write_str("the path has more steps than the index has levels"),
-            AskError::NotAnObject => f.write_str("a name is asked of what is not an object"),
-            AskError::NotAnArray => f.write_str("a number is asked of what is not an array"),
-            AskError::NoSuchName => f.write_str("no such name"),
-            AskError::NoSuchNumber => f.write_str("no such number"),
-            AskError::BrokenItem => f.write_str("a broken item: no name and colon where one belongs, or no value"),
+            AskError::Broken(_, Where { step: 0, .. }) => f.write_str("the record is blank all through"),
+            AskError::Miss(kind, Where { step, place }) => write!(f, "step {step}: {kind}, at byte {place}"),
+            AskError::Broken(kind, Where { step, place }) => write!(f, "step {step}: {kind}, at byte {place}"),
         }
     }
 }
@@ -230,14 +309,34 @@ mod tests {
             assert_eq!(error.place(), if number == 6 || number > 12 { 9 } else { 0 });
             assert_eq!(error.is_fault(), number > 12);
         }
-        for number in 20..=27 {
-            let error = AskError::told(number, 9).unwrap_err();
+        for number in 20..=29 {
+            let error = AskError::told(number, 9, 3).unwrap_err();
+            let walked = number > 22;
             assert_eq!(error.number(), number);
-            assert_eq!(error.place(), if number == 20 { 9 } else { 0 });
+            assert_eq!(error.place(), if number == 20 || walked { 9 } else { 0 });
+            assert_eq!(error.step(), if walked { 3 } else { 0 });
             let kind = (error.is_refusal(), error.is_miss(), error.is_broken_item());
-            assert_eq!(kind, (number < 23, (23..27).contains(&number), number == 27));
+            assert_eq!(kind, (!walked, (23..27).contains(&number), number > 26));
         }
-        assert_eq!((IndexError::told(0, 0), AskError::told(0, 3)), (Ok(()), Ok(())));
+        assert_eq!((IndexError::told(0, 0), AskError::told(0, 3, 0)), (Ok(()), Ok(())));
+    }
+
+    #[test]
+    fn a_sentence_tells_the_step_and_the_place() {
+        let sentence = |number| AskError::told(number, 9, 3).unwrap_err().to_string();
+        let whys = [
+            "the value is not an object",
+            "the value is not an array",
+            "the object has no such name",
+            "the array has no such number",
+            "a broken item without a colon",
+            "a broken item whose name is no quoted string",
+            "a broken item whose value is empty",
+        ];
+        for (number, why) in (23..).zip(whys) {
+            assert_eq!(sentence(number), format!("step 3: {why}, at byte 9"));
+        }
+        assert_eq!(AskError::told(29, 0, 0).unwrap_err().to_string(), "the record is blank all through");
     }
 
     #[test]

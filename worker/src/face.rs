@@ -38,6 +38,7 @@ extern "C" {
         path_length: usize,
         place: *mut usize,
         size: *mut usize,
+        step: *mut usize,
     ) -> u64;
 }
 
@@ -84,11 +85,17 @@ pub fn index(text: &[u8], words: &mut [u64], levels: usize, cuts: &[usize]) -> T
     (number, place)
 }
 
-/// The number, the place, and how many bytes the part has: it begins at that place where the number is 0, and else it
-/// has none.
-pub fn query(text: &[u8], words: &[u64], levels: usize, path: &[u8]) -> (u64, usize, usize) {
-    let mut place = 0;
-    let mut size = 0;
+/// What a query tells: a number of the scope's table, the place and the path step beside it, and how many bytes the part
+/// has. It begins at that place where the number is 0, and else it has none.
+pub struct QueryTold {
+    pub number: u64,
+    pub place: usize,
+    pub size: usize,
+    pub step: usize,
+}
+
+pub fn query(text: &[u8], words: &[u64], levels: usize, path: &[u8]) -> QueryTold {
+    let (mut place, mut size, mut step) = (0, 0, 0);
     // SAFETY: as in `run`; the words are only read.
     let number = unsafe {
         wararish_query(
@@ -101,7 +108,8 @@ pub fn query(text: &[u8], words: &[u64], levels: usize, path: &[u8]) -> (u64, us
             path.len(),
             &mut place,
             &mut size,
+            &mut step,
         )
     };
-    (number, place, size)
+    QueryTold { number, place, size, step }
 }

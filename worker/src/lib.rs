@@ -6,7 +6,9 @@
 //! let report = Report::new(br#"{"a":1,"b":[2,30]}"#);
 //! let index = report.index(2, &[])?;
 //! assert_eq!(index.ask(b"$.b[1]")?, b"30");
-//! assert_eq!(index.ask(b"$.c").unwrap_err().number(), 25);
+//! let miss = index.ask(b"$.b[2]").unwrap_err();
+//! assert_eq!((miss.number(), miss.step(), miss.place()), (26, 2, 11));
+//! assert_eq!(miss.to_string(), "step 2: the array has no such number, at byte 11");
 //! # Ok::<(), Box<dyn std::error::Error>>(())
 //! ```
 #![deny(unsafe_code)]
@@ -21,5 +23,5 @@ pub mod report;
 pub mod sample;
 
 pub use calls::Call;
-pub use errors::{AskError, FaultKind, IndexError};
+pub use errors::{AskError, BrokenKind, FaultKind, IndexError, MissKind, Where};
 pub use report::{words_needed, Index, Report, Unindexed, LEVELS, LIMIT};

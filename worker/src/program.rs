@@ -11,6 +11,7 @@ mod reading;
 mod sample;
 mod sentences;
 mod status;
+mod steps;
 
 use std::ffi::OsString;
 use std::io::{self, Write};

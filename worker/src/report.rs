@@ -104,9 +104,9 @@ impl<'r> Index<'r> {
 
     /// Where that part lies in the record.
     pub fn find(&self, path: &[u8]) -> Result<Range<usize>, AskError> {
-        let (number, place, size) = face::query(self.record, &self.words, self.levels, path);
-        AskError::told(number, place)?;
-        Ok(place..place + size)
+        let told = face::query(self.record, &self.words, self.levels, path);
+        AskError::told(told.number, told.place, told.step)?;
+        Ok(told.place..told.place + told.size)
     }
 
     pub fn record(&self) -> &'r [u8] {

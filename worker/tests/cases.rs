@@ -87,11 +87,11 @@ fn any_calls(random: &mut Random, chunks: usize) -> Vec<Call> {
 fn ask_paths(random: &mut Random, index: &Index, paths: &[Vec<u8>], seen: &mut Seen) {
     for _ in 0..3 {
         let path = records::path(random, paths);
-        let (number, start, end) = path::query(index.record(), index.words(), index.levels(), &path);
-        seen[number as usize] += 1;
+        let found = path::query(index.record(), index.words(), index.levels(), &path);
+        seen[found.number as usize] += 1;
         match index.ask(&path) {
-            Ok(part) => assert_eq!((number, part), (0, &index.record()[start..end])),
-            Err(error) => assert_eq!((error.number(), error.place(), error.place()), (number, start, end)),
+            Ok(part) => assert_eq!((found.number, part), (0, &index.record()[found.start..found.end])),
+            Err(error) => assert_eq!(path::told(error.number(), error.step(), error.place()), found),
         }
     }
 }
@@ -137,7 +137,7 @@ fn random_cases() {
     for _ in 0..CASES {
         check_case(&mut random, &mut seen);
     }
-    for number in [0, 1, 3, 5, 6, 12, 13, 14, 15, 16, 20, 21, 22, 23, 24, 25, 26, 27] {
+    for number in [0, 1, 3, 5, 6, 12, 13, 14, 15, 16, 20, 21, 22, 23, 24, 25, 26, 27, 28, 29] {
         assert!(seen[number] >= 15, "{number} was given {} times: {seen:?}", seen[number]);
     }
 }
@@ -153,5 +153,6 @@ fn beyond_the_limits() {
     }
     let limit = &record[..wararish::LIMIT];
     assert_eq!(Report::new(limit).index(usize::MAX, &[]).unwrap_err().number(), 3);
-    assert_eq!(Report::new(limit).index(1, &[]).unwrap().ask(b"$").unwrap_err().number(), 27);
+    let blank = Report::new(limit).index(1, &[]).unwrap().ask(b"$").unwrap_err();
+    assert_eq!((blank.number(), blank.step(), blank.place()), (29, 0, 0));
 }

@@ -9,9 +9,8 @@ use std::path::PathBuf;
 use std::process::{Command, Stdio};
 
 use bytewise::cases::text;
-use bytewise::path::line;
 use bytewise::random::Random;
-use bytewise::records;
+use bytewise::{path, records, rules};
 
 const PROGRAM: &str = env!("CARGO_BIN_EXE_wararish");
 const LIMIT: usize = 16_777_216;
@@ -79,22 +78,118 @@ fn ask_prints_the_value() {
 
 #[test]
 fn ask_takes_several_paths_a_line_each() {
-    let said = "wararish: $.c: no such name (25)\nwararish: $.a[2]: no such number (26)\n";
+    let name = "step 1, .c: the object has no such name, at byte 0, line 1, column 1 (25)";
+    let number = "step 2, [2]: the array has no such number, at byte 5, line 1, column 6 (26)";
+    let record = String::from_utf8_lossy(RECORD);
+    let said = format!("wararish: $.c: {name}\n  {record}\n  ^\nwararish: $.a[2]: {number}\n  {record}\n       ^\n");
     let paths = ["ask", "$.a[1]", "$.c", "$.b.c", "$.a[2]", "-"];
-    assert_eq!(run(&paths, RECORD), ended(1, "2\n\n3\n\n", said));
+    assert_eq!(run(&paths, RECORD), ended(1, "2\n\n3\n\n", &said));
     assert_eq!(run(&["ask", "$.a[0]", "$.a", "-"], RECORD), ended(0, "1\n[1,2]\n", ""));
 }
 
+/// A path, a record of one line in which it finds nothing, the step as the message tells it, and the place.
+type Unfound = (&'static str, &'static str, &'static str, usize);
+
+/// Checks what is printed and said of each, with a number that has this status and this sentence.
+fn check_unfound(number: u64, status: i32, why: &str, rows: &[Unfound]) {
+    for &(path, record, step, place) in rows {
+        let column = place + 1;
+        let sentence = format!("step {step}: {why}, at byte {place}, line 1, column {column} ({number})");
+        let said = format!("wararish: {path}: {sentence}\n  {record}\n  {:>column$}\n", '^');
+        assert_eq!(run(&["ask", path, "-"], record.as_bytes()), ended(status, "\n", &said));
+        let (step, _) = step.split_once(',').unwrap();
+        let told = format!("{number} {place} {place} {step}\n");
+        assert_eq!(run(&["ask", "--where", path, "-"], record.as_bytes()), ended(status, &told, &said));
+    }
+}
+
 #[test]
-fn ask_tells_each_miss_and_the_broken_item() {
-    let one = |path, record: &[u8]| run(&["ask", path, "-"], record);
-    let object = "wararish: $.a.x: a name is asked of what is not an object (23)\n";
-    assert_eq!(one("$.a.x", RECORD), ended(1, "\n", object));
-    let array = "wararish: $[0]: a number is asked of what is not an array (24)\n";
-    assert_eq!(one("$[0]", RECORD), ended(1, "\n", array));
-    let broken = "wararish: $[1]: a broken item: no name and colon where one belongs, or no value (27)\n";
-    assert_eq!(one("$[1]", b"[1,]"), ended(2, "\n", broken));
-    assert_eq!(one("$[0]", b" \n").0, 2, "blank all through");
+fn a_miss_tells_the_step_and_the_value_it_works_in() {
+    let object = [
+        ("$.a", "  7 ", "1, .a", 2),
+        ("$.a.x", r#"{"a":[1,2],"b":{"c":3}}"#, "2, .x", 5),
+        ("$[1][0].x.y", r#"[0,[ "{}"]]"#, "3, .x", 5),
+    ];
+    check_unfound(23, 1, "the value is not an object", &object);
+    let array =
+        [("$[0]", "{}", "1, [0]", 0), ("$.b[0]", r#"{"b": "[]"}"#, "2, [0]", 6), ("$[0][0][9]", "[[7]]", "3, [9]", 2)];
+    check_unfound(24, 1, "the value is not an array", &array);
+    let name = [
+        ("$.c", r#" {"a":{"c":1}}"#, "1, .c", 1),
+        ("$.a.b", r#"{"a":{ },"b":1}"#, "2, .b", 5),
+        ("$.a[1]._x9[0]", r#"{"a":[{},{"x":{"_x9":1}}]}"#, "3, ._x9", 9),
+    ];
+    check_unfound(25, 1, "the object has no such name", &name);
+    let number = [
+        ("$[2]", "[1,]", "1, [2]", 0),
+        ("$.a[0]", r#"{"a":[ ]}"#, "2, [0]", 5),
+        ("$[0][1][10]", "[[0, [1]]]", "3, [10]", 5),
+    ];
+    check_unfound(26, 1, "the array has no such number", &number);
+}
+
+#[test]
+fn a_broken_item_tells_the_step_and_where_it_begins() {
+    let no_colon = [
+        ("$.a", r#"{ "b" 1}"#, "1, .a", 1),
+        ("$[0].a", r#"[{"b":1,}]"#, "2, .a", 8),
+        ("$.a[0].b", r#"{"a":[{x{:}}]}"#, "3, .b", 7),
+    ];
+    check_unfound(27, 2, "a broken item without a colon", &no_colon);
+    let bad_name = [
+        ("$.a", "{x:}", "1, .a", 1),
+        ("$.b.a", r#"{"b":{"c":1, d:2}}"#, "2, .a", 12),
+        ("$[0][0].a", r#"[[{"a"x:1}]]"#, "3, .a", 3),
+    ];
+    check_unfound(28, 2, "a broken item whose name is no quoted string", &bad_name);
+    let empty_value = [
+        ("$[1]", "[1,]", "1, [1]", 3),
+        ("$[0]", "[,]", "1, [0]", 1),
+        ("$.a.b", r#"{"a":{ "b": }}"#, "2, .b", 6),
+        ("$.a[0][2]", r#"{"a":[[1,2, ]]}"#, "3, [2]", 11),
+    ];
+    check_unfound(29, 2, "a broken item whose value is empty", &empty_value);
+    assert_eq!(run(&["ask", "$.a", "-"], br#"{"b":,"a":1}"#), ended(0, "1\n", ""), "only the item that is taken");
+}
+
+#[test]
+fn a_step_is_shown_in_its_line() {
+    let record = "{\n \"frames\": [\n  {\"rate\": 24, \"tiles\": []},\n  {\"rate\": }\n ],\n}\n";
+    let shown = |path: &str, sentence: &str, window: &str| {
+        let said = format!("wararish: {path}: {sentence}\n{window}\n");
+        assert_eq!(run(&["ask", path, "-"], record.as_bytes()).2, said);
+    };
+    let number = "step 2, [2]: the array has no such number, at byte 13, line 2, column 12 (26)";
+    shown("$.frames[2]", number, "   \"frames\": [\n             ^");
+    let number = "step 4, [0]: the array has no such number, at byte 39, line 3, column 25 (26)";
+    shown("$.frames[0].tiles[0]", number, "    {\"rate\": 24, \"tiles\": []},\n                          ^");
+    let value = "step 3, .rate: a broken item whose value is empty, at byte 47, line 4, column 4 (29)";
+    shown("$.frames[1].rate", value, "    {\"rate\": }\n     ^");
+    // it begins with the line feed behind the comma, and what stands behind that is shown
+    let colon = "step 1, .reel: a broken item without a colon, at byte 60, line 5, column 4 (27)";
+    shown("$.reel", colon, "   ],.}\n     ^");
+}
+
+#[test]
+fn a_long_step_is_cut_short() {
+    let name = "n".repeat(60);
+    let (status, _, said) = run(&["ask", &format!("$.{name}"), "-"], b"{}");
+    let sentence = "the object has no such name, at byte 0, line 1, column 1 (25)";
+    let shown = format!("$.{}..: step 1, .{}..", "n".repeat(56), "n".repeat(57));
+    assert_eq!((status, said), (1, format!("wararish: {shown}: {sentence}\n  {{}}\n  ^\n")));
+}
+
+#[test]
+fn a_record_that_is_blank_all_through_has_no_step() {
+    for path in ["$", "$.a[0]"] {
+        let said = format!("wararish: {path}: the record is blank all through (29)\n");
+        assert_eq!(run(&["ask", path, "-"], b" \n"), ended(2, "\n", &said));
+        assert_eq!(run(&["ask", "--where", path, "-"], b"\t\r"), ended(2, "29 0 0 0\n", &said));
+        let told = r#""number":29,"start":0,"end":0,"step":0,"value":null,"message":"the record is blank all through""#;
+        let object = format!("{{\"path\":\"{path}\",{told}}}\n");
+        assert_eq!(run(&["ask", "--json", path, "-"], b" "), ended(2, &object, &said));
+    }
+    assert_eq!(run(&["ask", "--where", "$.", "-"], b" ").1, "20 2 2 0\n", "what is no path goes before");
 }
 
 #[test]
@@ -115,7 +210,7 @@ fn ask_refuses_what_is_no_path() {
 fn a_long_path_is_shown_around_its_place() {
     let path = format!("${}![0]{}", "[0]".repeat(15), ".abcdefgh".repeat(9));
     let (status, out, said) = run(&["ask", "--where", &path, "-"], RECORD);
-    assert_eq!((status, out.as_str()), (64, "20 46 46\n"));
+    assert_eq!((status, out.as_str()), (64, "20 46 46 0\n"));
     let window = format!("\n  {}\n  {}^\n", &path[16..76], " ".repeat(30));
     assert!(said.ends_with(&window), "{said}");
 }
@@ -131,30 +226,37 @@ fn sixteen_steps_are_the_most() {
 }
 
 #[test]
-fn ask_where_prints_the_showing_programs_lines() {
+fn ask_where_prints_number_start_end_and_step() {
     let paths = ["$", "$.b.c", "$.a[1]", "$.c", "$.a.x", "$[0]", "$.a[2]", "$.a[01]", "$."];
-    let lines = "0 0 23\n0 20 21\n0 8 9\n25 0 0\n23 0 0\n24 0 0\n26 0 0\n20 5 5\n20 2 2\n";
+    let lines = "0 0 23 0\n0 20 21 0\n0 8 9 0\n25 0 0 1\n23 5 5 2\n24 0 0 1\n26 5 5 2\n20 5 5 0\n20 2 2 0\n";
     let words = [&["ask", "--where"], &paths[..], &["-"]].concat();
     let (status, out, said) = run(&words, RECORD);
     assert_eq!((status, out.as_str(), said.matches("wararish: ").count()), (64, lines, 6));
     let (status, out, _) = run(&["ask", "--where", "$", "$.", "-"], b"[[");
-    assert_eq!((status, out.as_str()), (2, "16 2 2\n16 2 2\n"), "a fault goes before the path's refusal");
-    assert_eq!(run(&["ask", "--where", "$", "-"], b"").1, "1 0 0\n");
+    assert_eq!((status, out.as_str()), (2, "16 2 2 0\n16 2 2 0\n"), "a fault goes before the path's refusal");
+    assert_eq!(run(&["ask", "--where", "$", "-"], b"").1, "1 0 0 0\n");
+}
+
+/// What bytewise says of a path: the record's fault, or the answer over an index with as many levels as there can be.
+fn where_line(record: &[u8], path: &[u8]) -> String {
+    match rules::index(record, 16) {
+        (Some((number, place)), _) => format!("{number} {place} {place} 0\n"),
+        (None, words) => {
+            let told = path::query(record, &words, 16, path);
+            format!("{} {} {} {}\n", told.number, told.start, told.end, told.step)
+        }
+    }
 }
 
 #[test]
-fn ask_where_agrees_with_bytewise_on_the_showing_program() {
+fn ask_where_agrees_with_bytewise() {
     let mut random = Random::new(21);
     let mut numbers = HashSet::new();
     for _ in 0..300 {
         let text = text(&mut random);
         let path = String::from_utf8(records::path(&mut random, &text.paths)).unwrap();
-        // the showing program has four levels, and looks at the path's length before the record
-        if path.len() > 1024 || path.matches(['.', '[']).count() > 4 {
-            continue;
-        }
-        let line = line(&[path.as_bytes(), b"\n", &text.bytes].concat());
-        let out = run(&["ask", "--where", &path, "-"], &text.bytes).1;
+        let line = where_line(&text.bytes, path.as_bytes());
+        let out = run(&["ask", "--where", "--", &path, "-"], &text.bytes).1;
         assert_eq!(out, line, "{path} of {}", String::from_utf8_lossy(&text.bytes));
         numbers.insert(line.split(' ').next().unwrap().to_owned());
     }
@@ -163,18 +265,34 @@ fn ask_where_agrees_with_bytewise_on_the_showing_program() {
 
 #[test]
 fn ask_json_prints_an_object_a_line() {
-    let found = r#"{"path":"$[0]","number":0,"start":1,"end":7,"value":"\"a\\tb\"","message":"found"}"#;
-    let miss = r#"{"path":"$[4]","number":26,"start":0,"end":0,"value":null,"message":"no such number"}"#;
-    let none =
-        r#"{"path":"$[","number":20,"start":2,"end":2,"value":null,"message":"this is no path, from byte 2 of it on"}"#;
-    let (status, out, _) = run(&["ask", "--json", "$[0]", "$[4]", "$[", "-"], br#"["a\tb"]"#);
-    assert_eq!((status, out), (64, format!("{found}\n{miss}\n{none}\n")));
-    let raw = r#"{"path":"$[0]","number":0,"start":1,"end":4,"value":null,"message":"found"}"#;
+    let found = r#"{"path":"$[0]","number":0,"start":1,"end":7,"step":0,"value":"\"a\\tb\"","message":"found"}"#;
+    let none = r#""value":null,"message":"this is no path, from byte 2 of it on""#;
+    let none = format!(r#"{{"path":"$[","number":20,"start":2,"end":2,"step":0,{none}}}"#);
+    let (status, out, _) = run(&["ask", "--json", "$[0]", "$[", "-"], br#"["a\tb"]"#);
+    assert_eq!((status, out), (64, format!("{found}\n{none}\n")));
+    let raw = r#"{"path":"$[0]","number":0,"start":1,"end":4,"step":0,"value":null,"message":"found"}"#;
     assert_eq!(run(&["ask", "--json", "$[0]", "-"], b"[\"\xff\"]"), ended(0, &format!("{raw}\n"), ""));
     let message = "a bracket is closed that was not opened, at byte 0";
-    let fault = format!(r#"{{"path":"$","number":13,"start":0,"end":0,"value":null,"message":"{message}"}}"#);
+    let fault = format!(r#"{{"path":"$","number":13,"start":0,"end":0,"step":0,"value":null,"message":"{message}"}}"#);
     let (status, out, _) = run(&["ask", "--json", "$", "-"], b"]");
     assert_eq!((status, out), (2, format!("{fault}\n")));
+}
+
+#[test]
+fn ask_json_tells_the_step() {
+    let object = |path: &str, number: u64, place: usize, step: usize, message: &str| {
+        let told = format!(r#""path":"{path}","number":{number},"start":{place},"end":{place},"step":{step}"#);
+        format!("{{{told},\"value\":null,\"message\":\"{message}\"}}\n")
+    };
+    let out = [
+        object("$[4]", 26, 0, 1, "step 1: the array has no such number, at byte 0"),
+        object("$[1].x", 23, 3, 2, "step 2: the value is not an object, at byte 3"),
+        object("$[0][2]", 24, 1, 2, "step 2: the value is not an array, at byte 1"),
+        object("$[2].a.b", 29, 6, 2, "step 2: a broken item whose value is empty, at byte 6"),
+    ];
+    let words = ["ask", "--json", "$[4]", "$[1].x", "$[0][2]", "$[2].a.b", "-"];
+    let (status, told, said) = run(&words, br#"[1,2,{"a":}]"#);
+    assert_eq!((status, told, said.matches("wararish: ").count()), (2, out.concat(), 4));
 }
 
 #[test]
@@ -381,7 +499,7 @@ fn two_dashes_end_the_options() {
     room.file("--json", RECORD);
     let output = Command::new(PROGRAM).args(["ask", "--", "$.a[0]", "--json"]).current_dir(&room.0).output().unwrap();
     assert_eq!((output.status.code(), output.stdout), (Some(0), b"1\n".to_vec()));
-    assert_eq!(run(&["ask", "$.a[0]", "-", "--where"], RECORD), ended(0, "0 6 7\n", ""), "options may stand last");
+    assert_eq!(run(&["ask", "$.a[0]", "-", "--where"], RECORD), ended(0, "0 6 7 0\n", ""), "options may stand last");
 }
 
 #[test]
@@ -408,11 +526,11 @@ fn empty_and_too_long_records() {
 
     let mut report = [vec![b' '; LIMIT - 2], b"[]".to_vec()].concat();
     let largest = room.file("largest", &report);
-    assert_eq!(run(&["ask", "--where", "$", &largest], b""), ended(0, "0 16777214 16777216\n", ""));
+    assert_eq!(run(&["ask", "--where", "$", &largest], b""), ended(0, "0 16777214 16777216 0\n", ""));
     report.push(b' ');
     let above = room.file("above", &report);
     let said = |name: &str| format!("wararish: {name}: the record is above 16,777,216 bytes (2)\n");
-    assert_eq!(run(&["ask", "--where", "$", &above], b""), ended(2, "2 0 0\n", &said(&above)));
+    assert_eq!(run(&["ask", "--where", "$", &above], b""), ended(2, "2 0 0 0\n", &said(&above)));
     assert_eq!(run(&["index", "-"], &report), ended(2, "", &said("standard input")));
     assert_eq!(run(&["index", "/dev/zero"], b""), ended(2, "", &said("/dev/zero")), "it has no end");
 }
@@ -449,7 +567,8 @@ fn a_closed_output_ends_the_program_quietly() {
     for words in [&["sample"][..], &["ask", "$", &file], &["ask", "--json", "$", &file]] {
         assert_eq!(run_closed(words), (Some(0), String::new()), "{words:?}");
     }
-    let told = "wararish: $.x: no such name (25)\n".to_string();
+    let miss = "wararish: $.x: step 1, .x: the object has no such name, at byte 0, line 1, column 1 (25)";
+    let told = format!("{miss}\n  {}\n  ^\n", String::from_utf8_lossy(&report[..30]));
     assert_eq!(run_closed(&["ask", "$", "$.x", &file]), (Some(1), told), "the status stays");
 }
 

@@ -49,7 +49,9 @@ fn the_words_of_bytewise_and_parts_of_the_record_itself() {
     assert!(record.as_ptr_range().contains(&part.as_ptr()), "the part lies in the record's own memory");
     assert_eq!(&record[place..place + part.len()], part);
     assert_eq!((part.len(), part[0], part[part.len() - 1]), (13, b'"', b'"'));
-    assert_eq!(index.ask(format!("$.frames[{}]", last + 1).as_bytes()).unwrap_err().number(), 26);
+    let miss = index.ask(format!("$.frames[{}]", last + 1).as_bytes()).unwrap_err();
+    let frames = index.find(b"$.frames").unwrap();
+    assert_eq!((miss.number(), miss.step(), miss.place()), (26, 2, frames.start));
 }
 
 #[test]

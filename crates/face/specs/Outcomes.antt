@@ -14,8 +14,9 @@ pub record RunTells (text words : List ℕ) (levels : ℕ) (cuts : List ℕ) (ca
   pub place-is : place ≡ placeOf (wholeAnswer text words levels cuts calls)
   pub words-are : after ≡ wholeWords text words levels cuts calls
 
--- of a query: the number and the place that `query` tells, and how many bytes its part has
-pub record QueryTells (text words : List ℕ) (levels : ℕ) (path : List ℕ) (number place size : ℕ) : Type 0 where
+-- of a query: the number, the place and the step that `query` tells, and how many bytes its part has
+pub record QueryTells (text words : List ℕ) (levels : ℕ) (path : List ℕ) (number place size step : ℕ) : Type 0 where
   pub number-is : number ≡ query.numberOf (query.answerOf text words levels path)
   pub place-is : place ≡ query.placeOf (query.answerOf text words levels path)
   pub size-is : size ≡ length (query.partOf text (query.answerOf text words levels path))
+  pub step-is : step ≡ query.stepOf (query.answerOf text words levels path)

@@ -39,7 +39,8 @@ pub extern "C" fn wararish_index(
     answer.number()
 }
 
-// The part that a path selects, as its place and its size: a foreign caller makes the slice of it.
+// The part that a path selects, as its place and its size: a foreign caller makes the slice of it. And the step that a refusal
+// tells.
 #[no_mangle]
 pub extern "C" fn wararish_query(
     text: &[u8],
@@ -48,11 +49,12 @@ pub extern "C" fn wararish_query(
     path: &[u8],
     place: &mut usize,
     size: &mut usize,
+    step: &mut usize,
 ) -> u64
-    ensures { λ r. ⌜ QueryTells (now (text .entry)) (now (words .entry)) levels (now (path .entry)) r (now (place .exit)) (now (size .exit)) ⌝ }
+    ensures { λ r. ⌜ QueryTells (now (text .entry)) (now (words .entry)) levels (now (path .entry)) r (now (place .exit)) (now (size .exit)) (now (step .exit)) ⌝ }
 {
     let mut number = 0;
-    let part = query::query(text, words, levels, path, &mut number, place);
+    let part = query::query(text, words, levels, path, &mut number, place, step);
     *size = part.len();
     number
 }

@@ -51,7 +51,7 @@ module _ (text : List ℕ) (k : ℕ) where
   abbrev pub commasOf : ℕ → Bool
   commasOf = levelBit comma text (suc k)
 
-  no-first : (a e b : ℕ) → firstAt commasOf a e ≡ b → itemNo (byteIn text) commasOf 0 a e ≡ valueAt (byteIn text) a b
+  no-first : (a e b : ℕ) → firstAt commasOf a e ≡ b → itemNo (byteIn text) commasOf 0 a e ≡ valueAt (byteIn text) a a b
   unfolding itemNo
   no-first a e b h = rw h
 
@@ -91,12 +91,12 @@ module _ (text : List ℕ) (k : ℕ) where
       → deepItems (padItems a es) + suc k ≤ 64 → Taken text (suc k) (nth i (padItems a es)) (itemNo (byteIn text) commasOf i a e)
   unfolding nth deep
   number-taken zero a (Elems.last p) e q g h d =
-      one _ refl (rw (no-first a e (a + length (padBytes p)) (pad-last a p e q g h (omega arith))) (pad-hit text (suc k) a p g h (omega arith)))
+      one _ refl (rw (no-first a e (a + length (padBytes p)) (pad-last a p e q g h (omega arith))) (pad-hit text (suc k) a a p g h (omega arith)))
   number-taken (suc i) a (Elems.last p) e q g h d =
       none refl (no-more i a e (a + length (padBytes p)) (pad-last a p e q g h (omega arith)) (omega arith))
   number-taken zero a (Elems.more p es) e q g h d =
       let m = pad-more a p (elemsBytes es) e q g h (omega arith) in
-      one _ refl (rw (no-first a e (a + length (padBytes p)) (m .cut)) (pad-hit text (suc k) a p (seg-left text a (padBytes p) (0x2C ∷ elemsBytes es) g) h (omega arith)))
+      one _ refl (rw (no-first a e (a + length (padBytes p)) (m .cut)) (pad-hit text (suc k) a a p (seg-left text a (padBytes p) (0x2C ∷ elemsBytes es) g) h (omega arith)))
   number-taken (suc i) a (Elems.more p es) e q g h d =
       let n : ℕ = length (padBytes p) in
       let m = pad-more a p (elemsBytes es) e q g h (omega arith) in

@@ -97,14 +97,14 @@ module _ (text : List ℕ) (k : ℕ) where
       }
 
   keyed-item : (n : List ℕ) (a d e : ℕ) (raw : List ℕ) → Named a d raw
-      → keyed (byteIn text) (quoteBit text) n a d e ≡ pick (same raw n) (valueAt (byteIn text) (suc d) e) Other
+      → keyed (byteIn text) (quoteBit text) n a d e ≡ pick (same raw n) (valueAt (byteIn text) a (suc d) e) Other
   unfolding keyed
   keyed-item n a d e raw m = rw (m .trims .end, m .trims .start, m .framed, m .spells, add-one d)
 
   entry-item : {w raw us w′ : List ℕ} (n : List ℕ) (a : ℕ) (p : Pad) (b : Ws w) (s : Chars raw us) (b′ : Ws w′)
       → Seg text a (entryBytes (Entry.entry b s b′ p)) → At text a (out (suc k)) → deep (padded (suc (a + length (w ++ (stringBytes raw ++ w′)))) p) + suc k ≤ 64
       → itemAt (byteIn text) (ruled text) (suc k) n a (a + length (entryBytes (Entry.entry b s b′ p)))
-      ≡ pick (same raw n) (valueAt (byteIn text) (suc (a + length (w ++ (stringBytes raw ++ w′)))) (a + length (entryBytes (Entry.entry b s b′ p)))) Other
+      ≡ pick (same raw n) (valueAt (byteIn text) a (suc (a + length (w ++ (stringBytes raw ++ w′)))) (a + length (entryBytes (Entry.entry b s b′ p)))) Other
   unfolding itemAt bitOf
   entry-item {w} {raw} {us} {w′} n a p b s b′ g h d =
       let xs : List ℕ = w ++ (stringBytes raw ++ w′) in
@@ -140,7 +140,7 @@ module _ (text : List ℕ) (k : ℕ) where
         let xs : List ℕ = w ++ (stringBytes raw ++ w′) in
         let t = entry-parted a p b s b′ g h d in
         let l : a + length (xs ++ (0x3A ∷ padBytes p)) ≡ suc (a + length xs) + length (padBytes p) = omega (arith, length-append xs (0x3A ∷ padBytes p)) in
-        let v = pad-hit text (suc k) (suc (a + length xs)) p (seg-right text a xs (0x3A ∷ padBytes p) g .1) (t .value-at) d in
+        let v = pad-hit text (suc k) a (suc (a + length xs)) p (seg-right text a xs (0x3A ∷ padBytes p) g .1) (t .value-at) d in
         rw (entry-item n a p b s b′ g h d) (chosen (same raw n) _ (rawNamed n fs) _ later (rw l v) o)
 
     pub names-taken : (a : ℕ) (ms : Entries) (c e : ℕ) → e ≡ a + length (entriesBytes ms) → length (entriesBytes ms) < c → Seg text a (entriesBytes ms) → At text a (out (suc k))

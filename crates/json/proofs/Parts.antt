@@ -61,10 +61,10 @@ module _ (text : List ℕ) where
       }
 
   -- the value there
-  pub value-mid : {w w′ : List ℕ} (a : ℕ) (xs : List ℕ) → Ws w → Ws w′ → Seg text a (w ++ (xs ++ w′)) → Ends (a + length w) (length xs)
-      → valueAt (byteIn text) a (a + length (w ++ (xs ++ w′))) ≡ Found (a + length w) (a + length w + length xs)
+  pub value-mid : {w w′ : List ℕ} (place a : ℕ) (xs : List ℕ) → Ws w → Ws w′ → Seg text a (w ++ (xs ++ w′)) → Ends (a + length w) (length xs)
+      → valueAt (byteIn text) place a (a + length (w ++ (xs ++ w′))) ≡ Found (a + length w) (a + length w + length xs)
   unfolding valueAt
-  value-mid {w} a xs b b′ g h =
+  value-mid {w} place a xs b b′ g h =
       let t = trim a xs b b′ g h in
       rw (t .end, t .start, lt-ltb (a + length w) (a + length w + length xs) (omega (arith, h .size)))
 

@@ -1,7 +1,6 @@
 -- The path theorem: step after step the walk and RFC 9535 take the same node, from the whole text on. By the steps of the path.
 use mathlib.Core.Path.{_≡_, refl, _∙_}
 use mathlib.Core.Bool.{true, false, not, _&&_}
-use mathlib.Core.Logic.{_≢_}
 use mathlib.Core.List.{List, [], _∷_, _++_, append-nil}
 use Prim.Native.Nat.{ℕ, suc, _+_, _-_, _≤_, _<_}
 use native.Mathlib.Nat.{add-zero, zero-add}
@@ -18,7 +17,7 @@ use Rattle.query.specs.Items.{valueAt}
 use Rattle.walks.specs.Ruled.{ruled}
 use Rattle.paths.specs.Path.{Reading, good, bad, readPath, large}
 use Rattle.query.specs.Walk.{onFound, walkFrom, walk}
-use Rattle.query.specs.Answers.{numberOf, partOf, afterReading, answerOf}
+use Rattle.query.specs.Answers.{partOf, afterReading, answerOf}
 use Rattle.query.specs.declared.items.Item.the-variants as Items
 use Rattle.query.specs.declared.types.Answer.{Answer}
 use Rattle.query.specs.declared.types.Answer.the-variants.{Found, Refused}
@@ -29,7 +28,7 @@ use Rattle.query.proofs.Inside.{InRecord, ItemInRecord, value-in, step-in}
 use Rattle.texts.specs.Grammar.{Text}
 use Rattle.texts.specs.Nodes.{Json, valueOf, firstOf, bytesOf, deep}
 use Rattle.json.specs.Select.{children, flat, segments, select, Fair}
-use Rattle.json.specs.Demand2.{Obeys, root, AskedWith, Selects, Claim}
+use Rattle.json.specs.Demand2.{Obeys, root, Unbroken, AskedWith, Selects, Claim}
 use Rattle.texts.proofs.Padded.{Bare, Pad, bareBytes, padBytes, bareTree, padded, paddedText, text-same-bytes, text-same-tree}
 use Rattle.json.proofs.Trace.{at-start, Seg}
 use Rattle.json.proofs.Stretches.{seg-at, seg-self}
@@ -119,21 +118,21 @@ module _ (text : List ℕ) (kids : Selector → Json → List Json) (P : Json �
           rw (e, f, append-nil, add-one) (r a v (pa .0) g (fits .1))
 
 -- the whole text is a value and blanks
-whole : (text : List ℕ) (t : Text text) → deep (valueOf (t .derivation)) ≤ 64 → Hit text 0 (valueOf (t .derivation)) (valueAt (byteIn text) 0 (length text))
+whole : (text : List ℕ) (t : Text text) → deep (valueOf (t .derivation)) ≤ 64 → Hit text 0 (valueOf (t .derivation)) (valueAt (byteIn text) 0 0 (length text))
 whole text t d =
     let p : Pad = paddedText (t .derivation) in
     let e : padBytes p ≡ text = text-same-bytes (t .derivation) ∙ t .derives in
     let low : deep (padded 0 p) + 0 ≤ 64 = rw (add-zero, text-same-tree (t .derivation)) d in
-    let h : Hit text 0 (padded 0 p) (valueAt (byteIn text) 0 (0 + length (padBytes p))) = pad-hit text 0 0 p (rw e (seg-self text)) (at-start text) low in
+    let h : Hit text 0 (padded 0 p) (valueAt (byteIn text) 0 0 (0 + length (padBytes p))) = pad-hit text 0 0 0 p (rw e (seg-self text)) (at-start text) low in
     rw (zero-add, e, text-same-tree (t .derivation)) at h
 
 module _ (text : List ℕ) (kids : Selector → Json → List Json) (P : Json → Type 0) (Q : Selector → Type 0)
     (agree : (s : Selector) (a : ℕ) (v : Bare) → Q s → P (bareTree a v) → rawChildren s (bareTree a v) ≡ kids s (bareTree a v))
     (keeps : (s : Selector) (t : Json) → P t → All P (kids s t)) where
-  from-whole : (x : Json) (ss : List Selector) → Each Q ss → P x → Hit text 0 x (valueAt (byteIn text) 0 (length text)) → Selects text (along kids ss (x ∷ [])) (walk text (ruled text) ss)
+  from-whole : (x : Json) (ss : List Selector) → Each Q ss → P x → Hit text 0 x (valueAt (byteIn text) 0 0 (length text)) → Selects text (along kids ss (x ∷ [])) (walk text (ruled text) ss)
   unfolding walk
   from-whole x ss q p h =
-      let fits = value-in (byteIn text) 0 (length text) (length text) (omega arith) (omega arith) in
+      let fits = value-in (byteIn text) 0 0 (length text) (length text) (omega arith) (omega arith) in
       let f : ItemInRecord (length text) (Items.Found (h .place) (h .place + length (bareBytes (h .value)))) = rw (h .is-part) at fits in
       rw (h .is-tree, h .is-part) (walked text kids P Q agree keeps ss 0 (h .place) (h .value) q (rw (h .is-tree) at p) (h .good) (f .1))
 
@@ -188,13 +187,13 @@ each-true : (ss : List Selector) → Each (λ _. Unit {0}) ss
 each-true [] = tt
 each-true (s ∷ ss) = (tt, each-true ss)
 
-selects-number : {text : List ℕ} {ts : List Json} {x : Answer} → Selects text ts x → numberOf x ≢ 27
-selects-number (Selects.one t e) = omega arith
-selects-number (Selects.none h) = λ e. omega (arith, e)
+selects-unbroken : {text : List ℕ} {ts : List Json} {x : Answer} → Selects text ts x → Unbroken x
+selects-unbroken (Selects.one t e) i = omega (arith, i)
+selects-unbroken (Selects.none h) i = omega (arith, i)
 
-walk-unbroken : (text : List ℕ) (t : Text text) → deep (valueOf (t .derivation)) ≤ 64 → (ss : List Selector) → numberOf (walk text (ruled text) ss) ≢ 27
+walk-unbroken : (text : List ℕ) (t : Text text) → deep (valueOf (t .derivation)) ≤ 64 → (ss : List Selector) → Unbroken (walk text (ruled text) ss)
 walk-unbroken text t d ss =
-    selects-number
+    selects-unbroken
     (from-whole text rawChildren (λ _. Unit {0}) (λ _. Unit {0}) (λ s a v q p. refl) (λ s x h. all-true (rawChildren s x)) (valueOf (t .derivation)) ss
     (each-true ss) tt (whole text t d))
 
@@ -230,21 +229,20 @@ selected text words levels path ss t x =
     (walk-selects text t path ss (x .within .derived))
 
 unbroken : (text words : List ℕ) (levels : ℕ) (path : List ℕ) (t : Text text) → deep (valueOf (t .derivation)) ≤ 64 → Promise text levels words
-    → numberOf (answerOf text words levels path) ≢ 27
+    → Unbroken (answerOf text words levels path)
 unfolding answerOf
 unbroken text words levels path t d p =
-    let P : Answer → Type 0 = λ x. numberOf x ≢ 27 in
-    pick-ind P (eqb (length text) 0) (Refused EmptyRecord) _ (λ _. omega arith) (λ _.
-    pick-ind P (ltb 16777216 (length text)) (Refused LongRecord) _ (λ _. omega arith) (λ _.
-    pick-ind P (not (leb 1 levels && leb levels 16)) (Refused BadLevels) _ (λ _. omega arith) (λ _.
-    pick-ind P (not (eqb (length words) (sizeOf levels (length text)))) (Refused BadBuffer) _ (λ _. omega arith) (λ _.
-    pick-ind P (ltb 1024 (length path)) (Refused TooLarge) _ (λ _. omega arith) (λ _. go (readPath path))))))
+    pick-ind Unbroken (eqb (length text) 0) (Refused EmptyRecord) _ (λ _ i. omega (arith, i)) (λ _.
+    pick-ind Unbroken (ltb 16777216 (length text)) (Refused LongRecord) _ (λ _ i. omega (arith, i)) (λ _.
+    pick-ind Unbroken (not (leb 1 levels && leb levels 16)) (Refused BadLevels) _ (λ _ i. omega (arith, i)) (λ _.
+    pick-ind Unbroken (not (eqb (length words) (sizeOf levels (length text)))) (Refused BadBuffer) _ (λ _ i. omega (arith, i)) (λ _.
+    pick-ind Unbroken (ltb 1024 (length path)) (Refused TooLarge) _ (λ _ i. omega (arith, i)) (λ _. go (readPath path))))))
   where
-    go : (r : Reading) → numberOf (afterReading text words levels r) ≢ 27
-    go (bad q) = omega arith
+    go : (r : Reading) → Unbroken (afterReading text words levels r)
+    go (bad q) = λ i. omega (arith, i)
     go (good ss) =
-        pick-ind (λ x. numberOf x ≢ 27) (large ss) (Refused TooLarge) _ (λ _. omega arith) (λ _.
-        pick-ind (λ x. numberOf x ≢ 27) (ltb levels (length ss)) (Refused TooDeep) _ (λ _. omega arith) (λ h.
+        pick-ind Unbroken (large ss) (Refused TooLarge) _ (λ _ i. omega (arith, i)) (λ _.
+        pick-ind Unbroken (ltb levels (length ss)) (Refused TooDeep) _ (λ _ i. omega (arith, i)) (λ h.
         rw (walk-promised text levels words ss p (ltb-false levels (length ss) h)) (walk-unbroken text t d ss)))
 
 -- demand 2, of paths

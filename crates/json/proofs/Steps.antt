@@ -21,7 +21,8 @@ use Rattle.query.specs.declared.items.Item.{Item}
 use Rattle.query.specs.declared.types.Answer.{Answer}
 use Rattle.query.specs.declared.types.Answer.the-variants.{Found, Refused}
 use Rattle.query.specs.declared.types.Refusal.{Refusal}
-use Rattle.query.specs.declared.types.Refusal.the-variants.{NotObject, NotArray, NoName, NoNumber}
+use Rattle.query.specs.declared.types.Refusal.the-variants.{Missed}
+use Rattle.query.specs.declared.types.Miss.the-variants.{NotObject, NotArray, NoName, NoNumber}
 use Rattle.paths.proofs.PlaceLaws.{first-at}
 use Rattle.texts.specs.Grammar.{Ws, Number, stringBytes}
 use Rattle.texts.specs.Nodes.{Json, scalar, deep}
@@ -43,7 +44,7 @@ pub data StepTaken (text : List ℕ) (k : ℕ) (ts : List Json) (x : Answer) : T
   hit : (a : ℕ) (v : Bare) → ts ≡ bareTree a v ∷ [] → x ≡ Found a (a + length (bareBytes v)) → Good text k a v → StepTaken text k ts x
 
 module _ (text : List ℕ) (k : ℕ) where
-  of-item : (ts : List Json) (x : Item) (why : Refusal) → In 23 26 (refusalNumber why) → Taken text (suc k) ts x → StepTaken text (suc k) ts (ofItem why x)
+  of-item : (ts : List Json) (x : Item) (why : Refusal) → In 23 26 (refusalNumber why) → Taken text (suc k) ts x → StepTaken text (suc k) ts (ofItem why (suc k) x)
   of-item ts x why h (none e f) = miss why h e (rw f)
   of-item ts x why h (one t e i) = hit (i .place) (i .value) (e ∙ ap (λ (t : Json). t ∷ []) (i .is-tree)) (rw (i .is-part)) (i .good)
 
@@ -81,18 +82,18 @@ module _ (text : List ℕ) (k : ℕ) where
   unfolding framed byteIn
   not-framed c c′ a e h = rw (ne-eqb (getD text a 0) c h) (and-false (ltb (a + 1) e))
 
-  no-object : (n : List ℕ) (a e : ℕ) → getD text a 0 ≢ 0x7B → nameStep (byteIn text) (ruled text) (suc k) n a e ≡ Refused NotObject
+  no-object : (n : List ℕ) (a e : ℕ) → getD text a 0 ≢ 0x7B → nameStep (byteIn text) (ruled text) (suc k) n a e ≡ Refused (Missed NotObject (suc k) a)
   unfolding nameStep
   no-object n a e h = rw (not-framed 0x7B 0x7D a e h)
 
-  no-array : (i a e : ℕ) → getD text a 0 ≢ 0x5B → numberStep (byteIn text) (ruled text) (suc k) i a e ≡ Refused NotArray
+  no-array : (i a e : ℕ) → getD text a 0 ≢ 0x5B → numberStep (byteIn text) (ruled text) (suc k) i a e ≡ Refused (Missed NotArray (suc k) a)
   unfolding numberStep
   no-array i a e h = rw (not-framed 0x5B 0x5D a e h)
 
   scalar-step : (s : Selector) (a e : ℕ) (bs : List ℕ) → getD text a 0 ≢ 0x7B → getD text a 0 ≢ 0x5B
       → StepTaken text (suc k) (rawChildren s (scalar a bs)) (stepBy (byteIn text) (ruled text) (suc k) s a e)
-  scalar-step (name n) a e bs h l = miss NotObject (omega arith) refl (no-object n a e h)
-  scalar-step (number i) a e bs h l = miss NotArray (omega arith) refl (no-array i a e l)
+  scalar-step (name n) a e bs h l = miss (Missed NotObject (suc k) a) (omega arith) refl (no-object n a e h)
+  scalar-step (number i) a e bs h l = miss (Missed NotArray (suc k) a) (omega arith) refl (no-array i a e l)
 
   -- ---- what lies between is no blank where it begins with a value or a name
 
@@ -140,36 +141,36 @@ module _ (text : List ℕ) (k : ℕ) where
 
   array-step : (i a : ℕ) (xs : List ℕ) → Seg text a (0x5B ∷ (xs ++ (0x5D ∷ []))) → filled (byteIn text) a (a + length (0x5B ∷ (xs ++ (0x5D ∷ [])))) ≡ true
       → numberStep (byteIn text) (ruled text) (suc k) i a (a + length (0x5B ∷ (xs ++ (0x5D ∷ []))))
-      ≡ ofItem NoNumber (itemNo (byteIn text) (commasOf text k) i (suc a) (suc a + length xs))
+      ≡ ofItem (Missed NoNumber (suc k) a) (suc k) (itemNo (byteIn text) (commasOf text k) i (suc a) (suc a + length xs))
   unfolding numberStep bitOf
   array-step i a xs g f = rw (is-framed 0x5B 0x5D a xs g, f, inner-end 0x5B 0x5D a xs g, add-one a)
 
   array-none : (i a : ℕ) (xs : List ℕ) → Seg text a (0x5B ∷ (xs ++ (0x5D ∷ []))) → Ws xs
-      → numberStep (byteIn text) (ruled text) (suc k) i a (a + length (0x5B ∷ (xs ++ (0x5D ∷ [])))) ≡ Refused NoNumber
+      → numberStep (byteIn text) (ruled text) (suc k) i a (a + length (0x5B ∷ (xs ++ (0x5D ∷ [])))) ≡ Refused (Missed NoNumber (suc k) a)
   unfolding numberStep
   array-none i a xs g b = rw (is-framed 0x5B 0x5D a xs g, is-empty 0x5B 0x5D a xs g b)
 
   object-step : (n : List ℕ) (a : ℕ) (xs : List ℕ) → Seg text a (0x7B ∷ (xs ++ (0x7D ∷ []))) → filled (byteIn text) a (a + length (0x7B ∷ (xs ++ (0x7D ∷ [])))) ≡ true
       → nameStep (byteIn text) (ruled text) (suc k) n a (a + length (0x7B ∷ (xs ++ (0x7D ∷ []))))
-      ≡ ofItem NoName (firstItem (itemAt (byteIn text) (ruled text) (suc k) n) (commasOf text k) (suc a) (suc a + length xs))
+      ≡ ofItem (Missed NoName (suc k) a) (suc k) (firstItem (itemAt (byteIn text) (ruled text) (suc k) n) (commasOf text k) (suc a) (suc a + length xs))
   unfolding nameStep bitOf
   object-step n a xs g f = rw (is-framed 0x7B 0x7D a xs g, f, inner-end 0x7B 0x7D a xs g, add-one a)
 
   object-none : (n : List ℕ) (a : ℕ) (xs : List ℕ) → Seg text a (0x7B ∷ (xs ++ (0x7D ∷ []))) → Ws xs
-      → nameStep (byteIn text) (ruled text) (suc k) n a (a + length (0x7B ∷ (xs ++ (0x7D ∷ [])))) ≡ Refused NoName
+      → nameStep (byteIn text) (ruled text) (suc k) n a (a + length (0x7B ∷ (xs ++ (0x7D ∷ [])))) ≡ Refused (Missed NoName (suc k) a)
   unfolding nameStep
   object-none n a xs g b = rw (is-framed 0x7B 0x7D a xs g, is-empty 0x7B 0x7D a xs g b)
 
   array-value : (s : Selector) (a : ℕ) (es : Elems) → Good text k a (Bare.array es)
       → StepTaken text (suc k) (rawChildren s (bareTree a (Bare.array es))) (stepBy (byteIn text) (ruled text) (suc k) s a (a + length (bareBytes (Bare.array es))))
   unfolding deep
-  array-value (name n) a es g = miss NotObject (omega arith) refl (no-object n a _ (λ e. omega (arith, e, g .seg .0)))
+  array-value (name n) a es g = miss (Missed NotObject (suc k) a) (omega arith) refl (no-object n a _ (λ e. omega (arith, e, g .seg .0)))
   array-value (number i) a es g =
       let sg : Seg text (suc a) (elemsBytes es) = seg-left text (suc a) (elemsBytes es) (0x5D ∷ []) (g .seg .1) in
       let at : At text (suc a) (out (suc k)) = opened a 0x5B (g .at) (omega (arith, g .shallow)) (g .seg .0) refl in
       let dk = elems-dark (suc a) es sg in
       rw (array-step i a (elemsBytes es) (g .seg) (is-filled 0x5B 0x5D a (elemsBytes es) (g .seg) (dk .place) (dk .is-start) (dk .below)))
-      (of-item _ _ NoNumber (omega arith) (number-taken text k i (suc a) es _ refl sg at (omega (arith, g .shallow))))
+      (of-item _ _ (Missed NoNumber (suc k) a) (omega arith) (number-taken text k i (suc a) es _ refl sg at (omega (arith, g .shallow))))
 
   object-value : (s : Selector) (a : ℕ) (ms : Entries) → Good text k a (Bare.object ms)
       → StepTaken text (suc k) (rawChildren s (bareTree a (Bare.object ms))) (stepBy (byteIn text) (ruled text) (suc k) s a (a + length (bareBytes (Bare.object ms))))
@@ -179,20 +180,20 @@ module _ (text : List ℕ) (k : ℕ) where
       let at : At text (suc a) (out (suc k)) = opened a 0x7B (g .at) (omega (arith, g .shallow)) (g .seg .0) refl in
       let dk = entries-dark (suc a) ms sg in
       rw (object-step n a (entriesBytes ms) (g .seg) (is-filled 0x7B 0x7D a (entriesBytes ms) (g .seg) (dk .place) (dk .is-start) (dk .below)))
-      (of-item _ _ NoName (omega arith)
+      (of-item _ _ (Missed NoName (suc k) a) (omega arith)
       (names-taken text k n (suc a) ms (suc (suc a + length (entriesBytes ms) - suc a)) (suc a + length (entriesBytes ms)) refl (omega arith) sg at (omega (arith, g .shallow))))
-  object-value (number i) a ms g = miss NotArray (omega arith) refl (no-array i a _ (λ e. omega (arith, e, g .seg .0)))
+  object-value (number i) a ms g = miss (Missed NotArray (suc k) a) (omega arith) refl (no-array i a _ (λ e. omega (arith, e, g .seg .0)))
 
   empty-array-value : {w : List ℕ} (s : Selector) (a : ℕ) (e : Ws w) → Good text k a (Bare.empty-array e)
       → StepTaken text (suc k) (rawChildren s (bareTree a (Bare.empty-array e))) (stepBy (byteIn text) (ruled text) (suc k) s a (a + length (bareBytes (Bare.empty-array e))))
   unfolding nth
-  empty-array-value (name n) a e g = miss NotObject (omega arith) refl (no-object n a _ (λ z. omega (arith, z, g .seg .0)))
-  empty-array-value {w} (number i) a e g = miss NoNumber (omega arith) refl (array-none i a w (g .seg) e)
+  empty-array-value (name n) a e g = miss (Missed NotObject (suc k) a) (omega arith) refl (no-object n a _ (λ z. omega (arith, z, g .seg .0)))
+  empty-array-value {w} (number i) a e g = miss (Missed NoNumber (suc k) a) (omega arith) refl (array-none i a w (g .seg) e)
 
   empty-object-value : {w : List ℕ} (s : Selector) (a : ℕ) (e : Ws w) → Good text k a (Bare.empty-object e)
       → StepTaken text (suc k) (rawChildren s (bareTree a (Bare.empty-object e))) (stepBy (byteIn text) (ruled text) (suc k) s a (a + length (bareBytes (Bare.empty-object e))))
-  empty-object-value {w} (name n) a e g = miss NoName (omega arith) refl (object-none n a w (g .seg) e)
-  empty-object-value (number i) a e g = miss NotArray (omega arith) refl (no-array i a _ (λ z. omega (arith, z, g .seg .0)))
+  empty-object-value {w} (name n) a e g = miss (Missed NoName (suc k) a) (omega arith) refl (object-none n a w (g .seg) e)
+  empty-object-value (number i) a e g = miss (Missed NotArray (suc k) a) (omega arith) refl (no-array i a _ (λ z. omega (arith, z, g .seg .0)))
 
   number-value : (s : Selector) (a : ℕ) (bs : List ℕ) → Number bs → Seg text a bs
       → StepTaken text (suc k) (rawChildren s (scalar a bs)) (stepBy (byteIn text) (ruled text) (suc k) s a (a + length bs))

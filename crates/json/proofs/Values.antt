@@ -84,15 +84,15 @@ pub data Taken (text : List ℕ) (k : ℕ) (ts : List Json) (x : Item) : Type 0 
   one : (t : Json) → ts ≡ t ∷ [] → Hit text k t x → Taken text k ts x
 
 module _ (text : List ℕ) (k : ℕ) where
-  pub pad-hit : (a : ℕ) (p : Pad) → Seg text a (padBytes p) → At text a (out k) → deep (padded a p) + k ≤ 64
-      → Hit text k (padded a p) (valueAt (byteIn text) a (a + length (padBytes p)))
-  pad-hit a (Pad.pad {w} {w′} b v b′) g h d =
+  pub pad-hit : (place a : ℕ) (p : Pad) → Seg text a (padBytes p) → At text a (out k) → deep (padded a p) + k ≤ 64
+      → Hit text k (padded a p) (valueAt (byteIn text) place a (a + length (padBytes p)))
+  pad-hit place a (Pad.pad {w} {w′} b v b′) g h d =
       let s : Seg text (a + length w) (bareBytes v) = seg-left text (a + length w) (bareBytes v) w′ (seg-right text a w (bareBytes v ++ w′) g) in
       let t = trace text a true 0 (out k) (out k) w (seg-left text a w (bareBytes v ++ w′) g) h (plains-run true 0 k w (ws-plains b)) in
       record {
         place = a + length w;
         value = v;
         is-tree = refl;
-        is-part = value-mid text a (bareBytes v) b b′ g (value-ends text (a + length w) v s);
+        is-part = value-mid text place a (bareBytes v) b b′ g (value-ends text (a + length w) v s);
         good = record { seg = s; at = t .after; shallow = d };
       }

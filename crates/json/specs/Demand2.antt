@@ -2,7 +2,6 @@
 use Prim.Native.Nat.{ℕ, _+_, _≤_}
 use mathlib.Core.Path.{_≡_}
 use mathlib.Core.Bool.{false}
-use mathlib.Core.Logic.{_≢_}
 use mathlib.Core.List.{List, [], _∷_}
 use lib.ListN.{length}
 use Rattle.rules.specs.Faults.{sound, faultOf}
@@ -47,11 +46,15 @@ pub data Selects (text : List ℕ) : List Json → Answer → Type 0 where
       → Selects text (t ∷ []) (Found (firstOf t) (firstOf t + length (bytesOf t)))
   none : {why : Refusal} → In 23 26 (refusalNumber why) → Selects text [] (Refused why)
 
+-- an answer that tells of no broken item: not 27, 28 or 29
+abbrev pub Unbroken : Answer → Type 0
+Unbroken r = In 27 29 (numberOf r) → ⊥
+
 -- what is proved, for every derivation of the text: a query finds what RFC 9535 selects; whatever the names, no query finds a broken item; and
 -- such a text is sound
 pub record Claim : Type 0 where
   pub selected : (text words : List ℕ) (levels : ℕ) (path : List ℕ) (ss : List Selector) (t : Obeys text) → AskedWith text words levels path ss
       → Selects text (select ss (root t)) (answerOf text words levels path)
   pub unbroken : (text words : List ℕ) (levels : ℕ) (path : List ℕ) (t : Text text) → deep (valueOf (t .derivation)) ≤ 64 → Promise text levels words
-      → numberOf (answerOf text words levels path) ≢ 27
+      → Unbroken (answerOf text words levels path)
   pub taken : (text : List ℕ) (t : Text text) → deep (valueOf (t .derivation)) ≤ 64 → faultOf text ≡ sound

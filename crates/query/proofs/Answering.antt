@@ -27,10 +27,11 @@ use Rattle.paths.proofs.Checking.{fits-fine}
 use Rattle.query.proofs.items.Item.{the-type}
 
 -- a value that is not found is empty
-pub value-empty : (byte : ℕ → ℕ) (a e : ℕ) → OneOf (1 ∷ 2 ∷ []) (tagOf the-type (valueAt byte a e)) → ofItem (Broken EmptyValue) (valueAt byte a e) ≡ Refused (Broken EmptyValue)
+pub value-empty : (byte : ℕ → ℕ) (a e : ℕ) → OneOf (1 ∷ 2 ∷ []) (tagOf the-type (valueAt byte 0 a e))
+    → ofItem (Broken EmptyValue 0 0) 0 (valueAt byte 0 a e) ≡ Refused (Broken EmptyValue 0 0)
 unfolding valueAt
 value-empty byte a e =
-    pick-ind (λ (it : Item). OneOf (1 ∷ 2 ∷ []) (tagOf the-type it) → ofItem (Broken EmptyValue) it ≡ Refused (Broken EmptyValue)) (ltb (trimStart byte a e) (trimEnd byte a e)) _ _
+    pick-ind (λ (it : Item). OneOf (1 ∷ 2 ∷ []) (tagOf the-type it) → ofItem (Broken EmptyValue 0 0) 0 it ≡ Refused (Broken EmptyValue 0 0)) (ltb (trimStart byte a e) (trimEnd byte a e)) _ _
     (λ _ h. absurd (miss (1 ∷ 2 ∷ []) 0 tt h)) (λ _ h. refl)
 
 -- what a check answers; a path that is fine is walked

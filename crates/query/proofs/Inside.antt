@@ -15,8 +15,9 @@ use Rattle.query.specs.Items.{Bits, lent, solid, trimStart, trimEnd, val
 use Rattle.query.specs.Walk.{onFound, ofItem, framed, filled, nameStep, numberStep, stepBy, walkFrom, walk}
 use Rattle.query.specs.Answers.{afterReading, answerOf}
 use Rattle.query.specs.declared.types.Cause.the-variants.{NoColon, BadName, EmptyValue}
+use Rattle.query.specs.declared.types.Miss.the-variants.{NoName, NoNumber}
 use Rattle.query.specs.declared.types.Refusal.{Refusal}
-use Rattle.query.specs.declared.types.Refusal.the-variants.{EmptyRecord, LongRecord, BadLevels, BadBuffer, TooLarge, TooDeep, NoName, NoNumber, Broken}
+use Rattle.query.specs.declared.types.Refusal.the-variants.{EmptyRecord, LongRecord, BadLevels, BadBuffer, TooLarge, TooDeep, Missed, Broken}
 use Rattle.query.specs.declared.types.Answer.{Answer}
 use Rattle.query.specs.declared.types.Answer.the-variants.{Found, Refused}
 use Rattle.query.specs.declared.items.Item.{Item}
@@ -28,16 +29,16 @@ use Rattle.query.proofs.ItemLaws.{framed-long}
 abbrev pub ItemInRecord : ℕ → Item → Type 0
 ItemInRecord n (Items.Found s e) = (s < e) × (e ≤ n)
 ItemInRecord n Items.Other = Unit {0}
-ItemInRecord n (Items.Broken why) = Unit {0}
+ItemInRecord n (Items.Broken why p) = Unit {0}
 
 abbrev pub InRecord : ℕ → Answer → Type 0
 InRecord n r = onFound r (λ s e. (s < e) × (e ≤ n)) (λ why. Unit {0})
 
 -- ---- items
 
-pub value-in : (byte : ℕ → ℕ) (a e n : ℕ) → a ≤ e → e ≤ n → ItemInRecord n (valueAt byte a e)
+pub value-in : (byte : ℕ → ℕ) (place a e n : ℕ) → a ≤ e → e ≤ n → ItemInRecord n (valueAt byte place a e)
 unfolding valueAt
-value-in byte a e n h l =
+value-in byte place a e n h l =
     pick-ind (ItemInRecord n) (ltb (trimStart byte a e) (trimEnd byte a e)) _ _
     (λ q. (ltb-true _ _ q, omega (arith, last-bounds (solid byte) (trimStart byte a e) e (first-le (solid byte) a e h))))
     (λ _. tt)
@@ -48,22 +49,22 @@ keyed-in byte quote m a d e n h l =
     let p = trimStart byte a d in
     let q = trimEnd byte a d in
     let b = same (between byte (p + 1) (q - 1)) m in
-    pick-ind (ItemInRecord n) (quoted quote p q) (pick b (valueAt byte (d + 1) e) Items.Other) (Items.Broken BadName)
-    (λ _. pick-ind (ItemInRecord n) b (valueAt byte (d + 1) e) Items.Other (λ _. value-in byte (d + 1) e n (omega arith) l) (λ _. tt))
+    pick-ind (ItemInRecord n) (quoted quote p q) (pick b (valueAt byte a (d + 1) e) Items.Other) (Items.Broken BadName a)
+    (λ _. pick-ind (ItemInRecord n) b (valueAt byte a (d + 1) e) Items.Other (λ _. value-in byte a (d + 1) e n (omega arith) l) (λ _. tt))
     (λ _. tt)
 
 item-in : (byte : ℕ → ℕ) (bits : Bits) (k : ℕ) (m : List ℕ) (a e n : ℕ) → e ≤ n → ItemInRecord n (itemAt byte bits k m a e)
 unfolding itemAt
 item-in byte bits k m a e n h =
     let d = firstAt (bits .colon k) a e in
-    pick-ind (ItemInRecord n) (ltb d e) (keyed byte (bits .quote) m a d e) (Items.Broken NoColon)
+    pick-ind (ItemInRecord n) (ltb d e) (keyed byte (bits .quote) m a d e) (Items.Broken NoColon a)
     (λ q. keyed-in byte (bits .quote) m a d e n (ltb-true d e q) h)
     (λ _. tt)
 
 orElse-in : (n : ℕ) (it later : Item) → ItemInRecord n it → ItemInRecord n later → ItemInRecord n (orElse it later)
 orElse-in n (Items.Found s e) later i j = i
 orElse-in n Items.Other later i j = j
-orElse-in n (Items.Broken why) later i j = tt
+orElse-in n (Items.Broken why p) later i j = tt
 
 items-in : (item : ℕ → ℕ → Item) (comma : ℕ → Bool) (n : ℕ) → ((a e : ℕ) → e ≤ n → ItemInRecord n (item a e))
     → (c a e : ℕ) → a ≤ e → e ≤ n → ItemInRecord n (firstItemIn item comma c a e)
@@ -76,16 +77,16 @@ items-in item comma n each (suc c) a e h l =
 
 itemNo-in : (byte : ℕ → ℕ) (comma : ℕ → Bool) (n m a e : ℕ) → a ≤ e → e ≤ n → ItemInRecord n (itemNo byte comma m a e)
 unfolding itemNo
-itemNo-in byte comma n zero a e h l = value-in byte a (firstAt comma a e) n (first-ge comma a e h) (omega (arith, first-le comma a e h))
+itemNo-in byte comma n zero a e h l = value-in byte a a (firstAt comma a e) n (first-ge comma a e h) (omega (arith, first-le comma a e h))
 itemNo-in byte comma n (suc m) a e h l =
     pick-ind (ItemInRecord n) (ltb (firstAt comma a e) e) _ _ (λ q. itemNo-in byte comma n m (firstAt comma a e + 1) e (omega (arith, ltb-true (firstAt comma a e) e q)) l) (λ _. tt)
 
 -- ---- steps
 
-pub of-in : (n : ℕ) (none : Refusal) (it : Item) → ItemInRecord n it → InRecord n (ofItem none it)
-of-in n none (Items.Found s e) i = i
-of-in n none Items.Other i = tt
-of-in n none (Items.Broken why) i = tt
+pub of-in : (n : ℕ) (none : Refusal) (k : ℕ) (it : Item) → ItemInRecord n it → InRecord n (ofItem none k it)
+of-in n none k (Items.Found s e) i = i
+of-in n none k Items.Other i = tt
+of-in n none k (Items.Broken why p) i = tt
 
 module _ (byte : ℕ → ℕ) (bits : Bits) (n : ℕ) where
   pub name-in : (k : ℕ) (m : List ℕ) (a e : ℕ) → e ≤ n → InRecord n (nameStep byte bits k m a e)
@@ -94,7 +95,7 @@ module _ (byte : ℕ → ℕ) (bits : Bits) (n : ℕ) where
       pick-ind (InRecord n) (framed byte 123 125 a e) _ _
       (λ q. let l = framed-long byte 123 125 a e q in
       pick-ind (InRecord n) (filled byte a e) _ _
-      (λ _. of-in n NoName (firstItem (itemAt byte bits k m) (bits .comma k) (a + 1) (e - 1))
+      (λ _. of-in n (Missed NoName k a) k (firstItem (itemAt byte bits k m) (bits .comma k) (a + 1) (e - 1))
       (items-in (itemAt byte bits k m) (bits .comma k) n (λ b f i. item-in byte bits k m b f n i) (suc (e - 1 - (a + 1))) (a + 1) (e - 1) (omega arith) (omega arith)))
       (λ _. tt))
       (λ _. tt)
@@ -105,7 +106,7 @@ module _ (byte : ℕ → ℕ) (bits : Bits) (n : ℕ) where
       pick-ind (InRecord n) (framed byte 91 93 a e) _ _
       (λ q. let l = framed-long byte 91 93 a e q in
       pick-ind (InRecord n) (filled byte a e) _ _
-      (λ _. of-in n NoNumber (itemNo byte (bits .comma k) m (a + 1) (e - 1)) (itemNo-in byte (bits .comma k) n m (a + 1) (e - 1) (omega arith) (omega arith)))
+      (λ _. of-in n (Missed NoNumber k a) k (itemNo byte (bits .comma k) m (a + 1) (e - 1)) (itemNo-in byte (bits .comma k) n m (a + 1) (e - 1) (omega arith) (omega arith)))
       (λ _. tt))
       (λ _. tt)
 
@@ -129,8 +130,8 @@ pub walk-in : (text : List ℕ) (bits : Bits) (ss : List Selector) → InRecord 
 unfolding walk
 walk-in text bits ss =
     let n = length text in
-    on-in (byteIn text) bits n (ofItem (Broken EmptyValue) (valueAt (byteIn text) 0 n)) (λ a e. walkFrom (byteIn text) bits 1 ss a e)
-    (of-in n (Broken EmptyValue) (valueAt (byteIn text) 0 n) (value-in (byteIn text) 0 n n (omega arith) (omega arith)))
+    on-in (byteIn text) bits n (ofItem (Broken EmptyValue 0 0) 0 (valueAt (byteIn text) 0 0 n)) (λ a e. walkFrom (byteIn text) bits 1 ss a e)
+    (of-in n (Broken EmptyValue 0 0) 0 (valueAt (byteIn text) 0 0 n) (value-in (byteIn text) 0 0 n n (omega arith) (omega arith)))
     (λ b f i j. walkFrom-in (byteIn text) bits n 1 ss b f i j)
 
 -- a found part "has at least one byte", and lies inside the record

@@ -19,12 +19,12 @@ use Rattle.query.proofs.Standing.{Standing, standing-zero, standing-low
 after-keeps : (it r : Item) → (it ≡ Other → ⊥) → orElse it r ≡ it
 after-keeps (Found s t) r h = refl
 after-keeps Other r h = absurd (h refl)
-after-keeps (Broken w) r h = refl
+after-keeps (Broken w p) r h = refl
 
 after-last : (it : Item) → orElse it Other ≡ it
 after-last (Found s t) = refl
 after-last Other = refl
-after-last (Broken w) = refl
+after-last (Broken w p) = refl
 
 module _ (item : ℕ → ℕ → Item) (comma : ℕ → Bool) (e : ℕ) where
   pub items-next : (f a c : ℕ) → firstAt comma a e ≡ c → c < e → item a c ≡ Other → firstItemIn item comma (suc f) a e ≡ firstItemIn item comma f (c + 1) e

@@ -37,9 +37,9 @@ trimStart byte a e = firstAt (solid byte) a e
 abbrev pub trimEnd : (ℕ → ℕ) → ℕ → ℕ → ℕ
 trimEnd byte a e = pastLast (solid byte) (trimStart byte a e) e
 
--- what lies from a to e, "without end blanks; empty is 27"
-unfoldable pub valueAt : (ℕ → ℕ) → ℕ → ℕ → Item
-valueAt byte a e = pick (ltb (trimStart byte a e) (trimEnd byte a e)) (Found (trimStart byte a e) (trimEnd byte a e)) (Broken EmptyValue)
+-- what lies from a to e, "without end blanks", in an item that begins at `place`; empty is 29
+unfoldable pub valueAt : (ℕ → ℕ) → ℕ → ℕ → ℕ → Item
+valueAt byte place a e = pick (ltb (trimStart byte a e) (trimEnd byte a e)) (Found (trimStart byte a e) (trimEnd byte a e)) (Broken EmptyValue place)
 
 -- ---- items of a name step
 
@@ -61,21 +61,21 @@ unfolding valueAt same quoted
 keyed byte quote n a d e =
     pick (quoted quote (trimStart byte a d) (trimEnd byte a d))
     (pick (same (between byte (trimStart byte a d + 1) (trimEnd byte a d - 1)) n)
-    (valueAt byte (d + 1) e)
+    (valueAt byte a (d + 1) e)
     Other)
-    (Broken BadName)
+    (Broken BadName a)
 
--- an item from a to e: "broken if it has no colon of level k"
+-- an item from a to e: "broken if it has no colon of level k". Its place is "the byte after the bracket or comma before it"
 unfoldable pub itemAt : (ℕ → ℕ) → Bits → ℕ → List ℕ → ℕ → ℕ → Item
 unfolding keyed
 itemAt byte bits k n a e =
-    pick (ltb (firstAt (bits .colon k) a e) e) (keyed byte (bits .quote) n a (firstAt (bits .colon k) a e) e) (Broken NoColon)
+    pick (ltb (firstAt (bits .colon k) a e) e) (keyed byte (bits .quote) n a (firstAt (bits .colon k) a e) e) (Broken NoColon a)
 
 -- another item goes on, one that is found or broken stops
 abbrev pub orElse : Item → Item → Item
 orElse (Found s e) later = Found s e
 orElse Other later = later
-orElse (Broken why) later = Broken why
+orElse (Broken why p) later = Broken why p
 
 -- of at most so many items
 unfoldable pub firstItemIn : (ℕ → ℕ → Item) → (ℕ → Bool) → ℕ → ℕ → ℕ → Item
@@ -95,7 +95,7 @@ firstItem item comma a e = firstItemIn item comma (suc (e - a)) a e
 -- "the item with that number from 0, without end blanks", of those cut at the commas from a to e; else Other
 unfoldable pub itemNo : (ℕ → ℕ) → (ℕ → Bool) → ℕ → ℕ → ℕ → Item
 unfolding valueAt
-itemNo byte comma zero a e = valueAt byte a (firstAt comma a e)
+itemNo byte comma zero a e = valueAt byte a a (firstAt comma a e)
 itemNo byte comma (suc m) a e =
     let later = itemNo byte comma m (firstAt comma a e + 1) e in
     pick (ltb (firstAt comma a e) e) later Other

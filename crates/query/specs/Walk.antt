@@ -9,8 +9,9 @@ use Rattle.paths.specs.Places.{byteIn}
 use Rattle.paths.specs.Grammar.{Selector, name, number}
 use Rattle.query.specs.Items.{Bits, trimStart, valueAt, itemAt, firstItem, itemNo}
 use Rattle.query.specs.declared.types.Cause.the-variants.{EmptyValue}
+use Rattle.query.specs.declared.types.Miss.the-variants.{NotObject, NotArray, NoName, NoNumber}
 use Rattle.query.specs.declared.types.Refusal.{Refusal}
-use Rattle.query.specs.declared.types.Refusal.the-variants.{NotObject, NotArray, NoName, NoNumber, Broken}
+use Rattle.query.specs.declared.types.Refusal.the-variants.{Missed, Broken}
 use Rattle.query.specs.declared.types.Answer.{Answer}
 use Rattle.query.specs.declared.types.Answer.the-variants.{Found, Refused}
 use Rattle.query.specs.declared.items.Item.{Item}
@@ -21,11 +22,11 @@ abbrev pub onFound {ℓ} : {A : Type ℓ} → Answer → (ℕ → ℕ → A) →
 onFound (Found s e) found refused = found s e
 onFound (Refused why) found refused = refused why
 
--- what an item answers, and what it means that there is none
-abbrev pub ofItem : Refusal → Item → Answer
-ofItem none (Items.Found s e) = Found s e
-ofItem none Items.Other = Refused none
-ofItem none (Items.Broken why) = Refused (Broken why)
+-- what an item answers in step number k, and what it means that there is none
+abbrev pub ofItem : Refusal → ℕ → Item → Answer
+ofItem none k (Items.Found s e) = Found s e
+ofItem none k Items.Other = Refused none
+ofItem none k (Items.Broken why p) = Refused (Broken why k p)
 
 -- "needs `{` first and `}` last", or "`[` and `]`"; "a value shorter than two bytes is 23 or 24"
 unfoldable pub framed : (ℕ → ℕ) → ℕ → ℕ → ℕ → ℕ → Bool
@@ -35,15 +36,15 @@ framed byte head tail a e = ltb (a + 1) e && (eqb (byte a) head && eqb (byte (e 
 unfoldable pub filled : (ℕ → ℕ) → ℕ → ℕ → Bool
 filled byte a e = ltb (trimStart byte (a + 1) (e - 1)) (e - 1)
 
--- step number k, by a name, in the value from a to e
+-- step number k, by a name, in the value from a to e. A miss tells "the first byte of the value the step works in"
 unfoldable pub nameStep : (ℕ → ℕ) → Bits → ℕ → List ℕ → ℕ → ℕ → Answer
 unfolding framed filled
 nameStep byte bits k n a e =
     pick (framed byte 123 125 a e)
     (pick (filled byte a e)
-    (ofItem NoName (firstItem (itemAt byte bits k n) (bits .comma k) (a + 1) (e - 1)))
-    (Refused NoName))
-    (Refused NotObject)
+    (ofItem (Missed NoName k a) k (firstItem (itemAt byte bits k n) (bits .comma k) (a + 1) (e - 1)))
+    (Refused (Missed NoName k a)))
+    (Refused (Missed NotObject k a))
 
 -- and by a number
 unfoldable pub numberStep : (ℕ → ℕ) → Bits → ℕ → ℕ → ℕ → ℕ → Answer
@@ -51,9 +52,9 @@ unfolding framed filled
 numberStep byte bits k m a e =
     pick (framed byte 91 93 a e)
     (pick (filled byte a e)
-    (ofItem NoNumber (itemNo byte (bits .comma k) m (a + 1) (e - 1)))
-    (Refused NoNumber))
-    (Refused NotArray)
+    (ofItem (Missed NoNumber k a) k (itemNo byte (bits .comma k) m (a + 1) (e - 1)))
+    (Refused (Missed NoNumber k a)))
+    (Refused (Missed NotArray k a))
 
 abbrev pub stepBy : (ℕ → ℕ) → Bits → ℕ → Selector → ℕ → ℕ → Answer
 stepBy byte bits k (name n) a e = nameStep byte bits k n a e
@@ -65,8 +66,8 @@ unfolding nameStep numberStep
 walkFrom byte bits k [] a e = Found a e
 walkFrom byte bits k (s ∷ ss) a e = onFound (stepBy byte bits k s a e) (λ b f. walkFrom byte bits (k + 1) ss b f) Refused
 
--- "The value of `$` is the record without blanks at its ends; blank all through is 27"
+-- "The value of `$` is the record without blanks at its ends"; blank all through is 29, "step 0, place 0"
 unfoldable pub walk : List ℕ → Bits → List Selector → Answer
 unfolding walkFrom
 walk text bits ss =
-    onFound (ofItem (Broken EmptyValue) (valueAt (byteIn text) 0 (length text))) (λ a e. walkFrom (byteIn text) bits 1 ss a e) Refused
+    onFound (ofItem (Broken EmptyValue 0 0) 0 (valueAt (byteIn text) 0 0 (length text))) (λ a e. walkFrom (byteIn text) bits 1 ss a e) Refused

@@ -18,20 +18,24 @@ pub enum Item {
     Found { start: usize, end: usize },
     // Not the one.
     Other,
-    Broken(Cause),
+    // It begins at that place.
+    Broken { why: Cause, place: usize },
 }
 
-// The value from a to e without end blanks.
-pub fn value_at(text: &[u8], a: usize, e: usize) -> Item
+// The value from a to e without end blanks, of an item that begins at that place.
+pub fn value_at(text: &[u8], place: usize, a: usize, e: usize) -> Item
     requires { ⌜ (a ≤ e) × (e ≤ length (now text)) ⌝ }
-    ensures { λ r. ⌜ r ≡ valueAt (byteIn (now (text .entry))) a e ⌝ }
+    ensures { λ r. ⌜ r ≡ valueAt (byteIn (now (text .entry))) place a e ⌝ }
 {
     let start = blanks::skip_blanks(text, a, e);
     let end = blanks::drop_blanks(text, start, e);
     if start < end {
         Item::Found { start, end }
     } else {
-        Item::Broken(Cause::EmptyValue)
+        Item::Broken {
+            why: Cause::EmptyValue,
+            place,
+        }
     }
 }
 
@@ -90,10 +94,13 @@ fn keyed_item(
     let p = blanks::skip_blanks(text, a, d);
     let q = blanks::drop_blanks(text, p, d);
     if !is_quoted(words, s, p, q) {
-        return Item::Broken(Cause::BadName);
+        return Item::Broken {
+            why: Cause::BadName,
+            place: a,
+        };
     }
     if same_name(text, p + 1, q - 1, path, b, f) {
-        value_at(text, d + 1, e)
+        value_at(text, a, d + 1, e)
     } else {
         Item::Other
     }
@@ -120,7 +127,10 @@ fn item_of(
     if d < e {
         keyed_item(text, words, s, path, b, f, a, d, e)
     } else {
-        Item::Broken(Cause::NoColon)
+        Item::Broken {
+            why: Cause::NoColon,
+            place: a,
+        }
     }
 }
 
@@ -178,7 +188,7 @@ fn item_from(text: &[u8], words: &[u64], s: Shape, k: usize, start: usize, hi: u
     ensures { λ r. ⌜ r ≡ itemNo (byteIn (now (text .entry))) (bitIn (now (words .entry)) (s .levels) (s .width) (commas k)) 0 start hi ⌝ }
 {
     let end = bits::next_bit(words, s, Map::Commas(k), start, hi);
-    value_at(text, start, end)
+    value_at(text, start, start, end)
 }
 
 // The item with number m of those from lo to hi: behind the comma with the number before it.

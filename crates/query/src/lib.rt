@@ -40,7 +40,7 @@ pub fn answer(text: &[u8], words: &[u64], levels: usize, path: &[u8]) -> Answer
     }
 }
 
-// The part of the lent record itself that a path selects, the empty part at its start on refusal; and the number and place.
+// The part of the lent record itself that a path selects, the empty part at its start on refusal; and the number, place and step.
 pub fn query<'a>(
     text: &'a [u8],
     words: &[u64],
@@ -48,12 +48,14 @@ pub fn query<'a>(
     path: &[u8],
     number: &mut u64,
     place: &mut usize,
+    step: &mut usize,
 ) -> &'a [u8]
-    ensures { λ r. ⌜ QueryGives (now (text .entry)) (now (words .entry)) levels (now (path .entry)) (text .entry .ptr .0) (text .entry .ptr .1) (now r) (r .ptr .0) (r .ptr .1) (now (number .exit)) (now (place .exit)) ⌝ }
+    ensures { λ r. ⌜ QueryGives (now (text .entry)) (now (words .entry)) levels (now (path .entry)) (text .entry .ptr .0) (text .entry .ptr .1) (now r) (r .ptr .0) (r .ptr .1) (now (number .exit)) (now (place .exit)) (now (step .exit)) ⌝ }
 {
     let told = answer(text, words, levels, path);
     *number = told.number();
     *place = told.place();
+    *step = told.step();
     match told {
         Answer::Found { start, end } => &text[start..end],
         Answer::Refused(_) => &text[..0],

@@ -5,6 +5,7 @@ use crate::items;
 use crate::items::Item;
 use crate::types::Answer;
 use crate::types::Cause;
+use crate::types::Miss;
 use crate::types::Refusal;
 use paths::PathStep;
 ghost use mathlib.Core.Path.{_≡_};
@@ -18,7 +19,9 @@ ghost use Rattle.paths.specs.Grammar.{Selector};
 ghost use Rattle.paths.specs.Path.{readPath, good};
 ghost use Rattle.paths.specs.Places.{byteIn, between};
 ghost use Rattle.query.specs.Items.{lent};
-ghost use Rattle.query.specs.Walk.{framed, filled, nameStep, numberStep, walkFrom, walk};
+ghost use Rattle.query.specs.declared.types.Answer.the-variants.{Refused};
+ghost use Rattle.query.specs.declared.types.Refusal.the-variants.{Missed};
+ghost use Rattle.query.specs.Walk.{ofItem, framed, filled, nameStep, numberStep, walkFrom, walk};
 
 // From a to e: at least two bytes, with these at its ends.
 fn is_framed(text: &[u8], head: u8, tail: u8, a: usize, e: usize) -> bool
@@ -42,6 +45,32 @@ fn is_filled(text: &[u8], a: usize, e: usize) -> bool
     blanks::skip_blanks(text, a + 1, e - 1) < e - 1
 }
 
+// Step number k finds nothing in the value that begins at a.
+fn missed(why: Miss, k: usize, a: usize) -> Answer
+    ensures { λ r. ⌜ r ≡ Refused (Missed why k a) ⌝ }
+{
+    Answer::Refused(Refusal::Missed {
+        why,
+        step: k,
+        place: a,
+    })
+}
+
+// What an item answers in that step, and what it means that there is none.
+fn of_item(none: Miss, k: usize, a: usize, item: Item) -> Answer
+    ensures { λ r. ⌜ r ≡ ofItem (Missed none k a) k item ⌝ }
+{
+    match item {
+        Item::Found { start, end } => Answer::Found { start, end },
+        Item::Other => missed(none, k, a),
+        Item::Broken { why, place } => Answer::Refused(Refusal::Broken {
+            why,
+            step: k,
+            place,
+        }),
+    }
+}
+
 // The step number k, by the name b to f of the path, in the value from a to e.
 fn name_step(
     text: &[u8],
@@ -60,17 +89,13 @@ fn name_step(
     ensures { λ r. ⌜ r ≡ nameStep (byteIn (now (text .entry))) (lent (now (words .entry)) (s .levels) (s .width)) k (between (byteIn (now (path .entry))) b f) a e ⌝ }
 {
     if !is_framed(text, 123, 125, a, e) {
-        return Answer::Refused(Refusal::NotObject);
+        return missed(Miss::NotObject, k, a);
     }
     if !is_filled(text, a, e) {
-        return Answer::Refused(Refusal::NoName);
+        return missed(Miss::NoName, k, a);
     }
     let item = items::find_name(text, words, s, k, path, b, f, a + 1, e - 1);
-    match item {
-        Item::Found { start, end } => Answer::Found { start, end },
-        Item::Other => Answer::Refused(Refusal::NoName),
-        Item::Broken(why) => Answer::Refused(Refusal::Broken(why)),
-    }
+    of_item(Miss::NoName, k, a, item)
 }
 
 // The step number k, by the number m, in the value from a to e.
@@ -89,17 +114,13 @@ fn number_step(
     ensures { λ r. ⌜ r ≡ numberStep (byteIn (now (text .entry))) (lent (now (words .entry)) (s .levels) (s .width)) k m a e ⌝ }
 {
     if !is_framed(text, 91, 93, a, e) {
-        return Answer::Refused(Refusal::NotArray);
+        return missed(Miss::NotArray, k, a);
     }
     if !is_filled(text, a, e) {
-        return Answer::Refused(Refusal::NoNumber);
+        return missed(Miss::NoNumber, k, a);
     }
     let item = items::item_no(text, words, s, k, m, a + 1, e - 1);
-    match item {
-        Item::Found { start, end } => Answer::Found { start, end },
-        Item::Other => Answer::Refused(Refusal::NoNumber),
-        Item::Broken(why) => Answer::Refused(Refusal::Broken(why)),
-    }
+    of_item(Miss::NoNumber, k, a, item)
 }
 
 // All steps of a path that was checked, from the value of `$` on.
@@ -155,9 +176,13 @@ pub fn walk_record(text: &[u8], words: &[u64], s: Shape, path: &[u8]) -> Answer
     requires { ⌜ pathCheck (now path) (s .levels) ≡ Fine ⌝ }
     ensures { λ r. ⌜ ((ss : List Selector) → readPath (now (path .entry)) ≡ good ss → r ≡ walk (now (text .entry)) (lent (now (words .entry)) (s .levels) (s .width)) ss) ⌝ }
 {
-    let whole = items::value_at(text, 0, text.len());
+    let whole = items::value_at(text, 0, 0, text.len());
     let Item::Found { start, end } = whole else {
-        return Answer::Refused(Refusal::Broken(Cause::EmptyValue));
+        return Answer::Refused(Refusal::Broken {
+            why: Cause::EmptyValue,
+            step: 0,
+            place: 0,
+        });
     };
     walk_path(text, words, s, path, start, end)
 }

@@ -1,6 +1,5 @@
 -- Laws for the functions' proofs.
 pub mod Jobs
-pub mod Telling
 pub mod Inputs
 pub mod Enough
 pub mod Results

@@ -8,6 +8,7 @@ use Rattle.rules.specs.Word.{pick}
 use Rattle.rules.specs.Layout.{sizeOf}
 use Rattle.index.specs.declared.Answer as job
 use Rattle.index.specs.Answers.{numberOf, placeOf, onDone}
+use Rattle.query.specs.declared.types.Refusal.{Refusal}
 use Rattle.query.specs.declared.types.Answer.{Answer}
 use Rattle.paths.specs.Places.{firstAt}
 use Rattle.query.specs.Walk.{onFound}
@@ -33,9 +34,13 @@ recordOf input = drop (pathEnd input + 1) input
 abbrev pub placed : ℕ → ℕ → Printed
 placed number place = record { number = number; start = place; end = place }
 
+-- of 23 to 29 too: "The program goes on printing 0 0"
+abbrev pub refusalPrinted : Refusal → Printed
+refusalPrinted why = placed (query.refusalNumber why) (pick (ltb (query.refusalNumber why) 23) (query.refusalPlace why) 0)
+
 -- "number, start, end (end not included)" of a query
 abbrev pub queryPrinted : Answer → Printed
-queryPrinted a = onFound a (λ s e. record { number = 0; start = s; end = e }) (λ why. placed (query.refusalNumber why) (query.refusalPlace why))
+queryPrinted a = onFound a (λ s e. record { number = 0; start = s; end = e }) refusalPrinted
 
 -- "The job runs before the path is read, so a fault of the record is printed and not the path's refusal"
 abbrev pub afterJob : job.Answer → Printed → Printed

@@ -2,7 +2,7 @@
 ghost use mathlib.Core.Path.{_≡_};
 ghost use Prim.Native.Nat.{_-_, _/_, _≤_};
 ghost use lib.ListN.{length};
-ghost use Rattle.query.specs.Answers.{answerOf, refusalNumber, refusalPlace};
+ghost use Rattle.query.specs.Answers.{answerOf};
 ghost use Rattle.show.specs.Running.{multiples};
 ghost use Rattle.show.specs.Printing as Printing;
 use index::Answer;
@@ -25,27 +25,28 @@ fn placed(number: u64, place: usize) -> Printed
     }
 }
 
-// What the program refuses by itself, by the numbers of a query.
+// A miss and a broken item tell a place in the record, and do not print it.
 fn refused(why: Refusal) -> Printed
-    ensures { λ r. ⌜ r ≡ Printing.placed (refusalNumber why) (refusalPlace why) ⌝ }
+    ensures { λ r. ⌜ r ≡ Printing.refusalPrinted why ⌝ }
 {
-    placed(why.number(), why.place())
+    let number = why.number();
+    if number < 23 {
+        return placed(number, why.place());
+    }
+    placed(number, 0)
 }
 
-// A found part has at least one byte, and a refused query's part is empty.
 fn query_printed(text: &[u8], words: &[u64], path: &[u8]) -> Printed
     ensures { λ r. ⌜ r ≡ Printing.queryPrinted (answerOf (now (text .entry)) (now (words .entry)) 4 (now (path .entry))) ⌝ }
 {
-    let mut number = 0;
-    let mut place = 0;
-    let part = query::query(text, words, 4, path, &mut number, &mut place);
-    if part.len() == 0 {
-        return placed(number, place);
-    }
-    Printed {
-        number: number,
-        start: place,
-        end: place + part.len(),
+    let told = query::answer(text, words, 4, path);
+    match told {
+        query::types::Answer::Found { start, end } => Printed {
+            number: 0,
+            start,
+            end,
+        },
+        query::types::Answer::Refused(why) => refused(why),
     }
 }
 

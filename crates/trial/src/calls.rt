@@ -86,8 +86,17 @@ fn ask(job: Job, k: usize) {
 fn find(text: &[u8], words: &[u64], levels: usize, path: &[u8]) {
     let mut number = 0;
     let mut place = 0;
-    let part = query::query(text, words, levels, path, &mut number, &mut place);
-    tell_part(number, place, part);
+    let mut step = 0;
+    let part = query::query(
+        text,
+        words,
+        levels,
+        path,
+        &mut number,
+        &mut place,
+        &mut step,
+    );
+    tell_part(number, place, step, part);
 }
 
 // Q: with the path that follows.

@@ -1,5 +1,5 @@
 // What is printed: of each call ` number@place`, of an asking ` number@chunks+steps`, of a query
-// ` number@place+length:digest` with a digest of the part's bytes; at a case's end the digest of the words as every call of it
+// ` number@place/step+length:digest` with a digest of the part's bytes; at a case's end the digest of the words as every call of it
 // left them.
 use crate::input::wide;
 
@@ -42,8 +42,12 @@ pub fn tell_two(number: u64, first: usize, second: usize) {
 }
 
 // The low half of the digest is told.
-pub fn tell_part(number: u64, place: usize, part: &[u8]) {
-    tell_two(number, place, part.len());
+pub fn tell_part(number: u64, place: usize, step: usize, part: &[u8]) {
+    tell(number, place);
+    io::write_all(1, b"/");
+    io::print_decimal(1, step as u64);
+    io::write_all(1, b"+");
+    io::print_decimal(1, part.len() as u64);
     io::write_all(1, b":");
     io::print_hex(1, digest_of_bytes(part) % 4294967296, 8);
 }

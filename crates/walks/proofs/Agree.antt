@@ -21,7 +21,8 @@ use Rattle.query.specs.Answers.{afterReading, answerOf}
 use Rattle.query.specs.declared.items.Item.{Item}
 use Rattle.query.specs.declared.items.Item.the-variants as Items
 use Rattle.query.specs.declared.types.Cause.the-variants.{EmptyValue}
-use Rattle.query.specs.declared.types.Refusal.the-variants.{EmptyRecord, LongRecord, BadLevels, BadBuffer, TooLarge, TooDeep, NotObject, NotArray, NoName, NoNumber, Broken}
+use Rattle.query.specs.declared.types.Miss.the-variants.{NotObject, NotArray, NoName, NoNumber}
+use Rattle.query.specs.declared.types.Refusal.the-variants.{EmptyRecord, LongRecord, BadLevels, BadBuffer, TooLarge, TooDeep, Missed, Broken}
 use Rattle.query.specs.declared.types.Answer.{Answer}
 use Rattle.query.specs.declared.types.Answer.the-variants.{Found, Refused}
 use Rattle.paths.proofs.PlaceLaws.{first-ge, first-le, last-bounds}
@@ -107,11 +108,11 @@ module _ (byte : ℕ → ℕ) (n l : ℕ) (b c : Bits) (g : Agree n l b c) where
   step-agree : (k : ℕ) (s : Selector) (a e : ℕ) → 1 ≤ k → k ≤ l → e ≤ n → stepBy byte b k s a e ≡ stepBy byte c k s a e
   unfolding nameStep numberStep firstItem
   step-agree k (name m) a e o p h =
-      when (framed byte 123 125 a e) (Refused NotObject) (λ q. let f = framed-long byte 123 125 a e q in
-      when (filled byte a e) (Refused NoName) (λ _. ap (ofItem NoName) (items-agree (itemAt byte b k m) (itemAt byte c k m) (b .comma k) (c .comma k) n (λ i z. g .commas k i o p z) (λ a e i j. item-agree k m o p a e i j) (suc (e - 1 - (a + 1))) (a + 1) (e - 1) (omega arith) (omega arith))))
+      when (framed byte 123 125 a e) (Refused (Missed NotObject k a)) (λ q. let f = framed-long byte 123 125 a e q in
+      when (filled byte a e) (Refused (Missed NoName k a)) (λ _. ap (ofItem (Missed NoName k a) k) (items-agree (itemAt byte b k m) (itemAt byte c k m) (b .comma k) (c .comma k) n (λ i z. g .commas k i o p z) (λ a e i j. item-agree k m o p a e i j) (suc (e - 1 - (a + 1))) (a + 1) (e - 1) (omega arith) (omega arith))))
   step-agree k (number m) a e o p h =
-      when (framed byte 91 93 a e) (Refused NotArray) (λ q. let f = framed-long byte 91 93 a e q in
-      when (filled byte a e) (Refused NoNumber) (λ _. ap (ofItem NoNumber) (itemNo-agree byte (b .comma k) (c .comma k) n (λ i z. g .commas k i o p z) m (a + 1) (e - 1) (omega arith) (omega arith))))
+      when (framed byte 91 93 a e) (Refused (Missed NotArray k a)) (λ q. let f = framed-long byte 91 93 a e q in
+      when (filled byte a e) (Refused (Missed NoNumber k a)) (λ _. ap (ofItem (Missed NoNumber k a) k) (itemNo-agree byte (b .comma k) (c .comma k) n (λ i z. g .commas k i o p z) m (a + 1) (e - 1) (omega arith) (omega arith))))
 
   on-agree : (r : Answer) (x y : ℕ → ℕ → Answer) → InRecord n r → ((s e : ℕ) → e ≤ n → x s e ≡ y s e) → onFound r x Refused ≡ onFound r y Refused
   on-agree (Found s e) x y i f = f s e (i .1)
@@ -130,8 +131,8 @@ pub walk-agree : (text : List ℕ) (ss : List Selector) (b c : Bits) → Agree (
 unfolding walk
 walk-agree text ss b c g =
     let n = length text in
-    on-agree (byteIn text) n (length ss) b c g (ofItem (Broken EmptyValue) (valueAt (byteIn text) 0 n)) (λ a e. walkFrom (byteIn text) b 1 ss a e) (λ a e. walkFrom (byteIn text) c 1 ss a e)
-    (of-in n (Broken EmptyValue) (valueAt (byteIn text) 0 n) (value-in (byteIn text) 0 n n (omega arith) (omega arith)))
+    on-agree (byteIn text) n (length ss) b c g (ofItem (Broken EmptyValue 0 0) 0 (valueAt (byteIn text) 0 0 n)) (λ a e. walkFrom (byteIn text) b 1 ss a e) (λ a e. walkFrom (byteIn text) c 1 ss a e)
+    (of-in n (Broken EmptyValue 0 0) 0 (valueAt (byteIn text) 0 0 n) (value-in (byteIn text) 0 0 n n (omega arith) (omega arith)))
     (λ a e h. walkFrom-agree (byteIn text) n (length ss) b c g 1 ss a e (omega arith) (omega arith) h)
 
 -- ---- the answer

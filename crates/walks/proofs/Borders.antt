@@ -83,13 +83,13 @@ module _ (comma : ℕ → Bool) (a e : ℕ) (h : a ≤ e) where
 pub found-stops : {p q : ℕ} → Found p q ≡ Other → ⊥
 found-stops e = impossible (cc)
 
-pub broken-stops : {why : Cause} → Broken why ≡ Other → ⊥
+pub broken-stops : {why : Cause} {p : ℕ} → Broken why p ≡ Other → ⊥
 broken-stops e = impossible (cc)
 
 other-or-not : (x : Item) → (x ≡ Other) ⊎ (x ≡ Other → ⊥)
 other-or-not (Found p q) = inr (λ e. found-stops e)
 other-or-not Other = inl refl
-other-or-not (Broken why) = inr (λ e. broken-stops e)
+other-or-not (Broken why p) = inr (λ e. broken-stops e)
 
 module _ (item : ℕ → ℕ → Item) (is : ℕ → ℕ → Item → Type 0) (law : (s f : ℕ) (r : Item) → s ≤ f → (item s f ≡ r) ↔ is s f r) (comma : ℕ → Bool) where
   data Taken (a e : ℕ) : Item → Type 0 where

@@ -12,13 +12,16 @@ use Rattle.paths.specs.Grammar.{Selector, name, number}
 use Rattle.query.specs.Items.{Bits, itemAt, firstItem}
 use Rattle.query.specs.Walk.{onFound, ofItem, framed, filled, nameStep, numberStep, stepBy, walkFrom, walk}
 use Rattle.walks.specs.Members.{OnlyBlanks, Framed}
-use Rattle.query.specs.Answers.{refusalNumber}
+use Rattle.query.specs.Answers.{missNumber, causeNumber, refusalNumber}
 use Rattle.walks.specs.Conditions.{StepGives, not-object, no-member, no-name, broken-member, member, not-array, no-element, no-number, broken-element, element, StepsGive, done, here, later, WalkGives, blank, within}
 use Rattle.query.specs.declared.items.Item.{Item}
 use Rattle.query.specs.declared.items.Item.the-variants as Items
-use Rattle.query.specs.declared.types.Cause.the-variants.{EmptyValue}
+use Rattle.query.specs.declared.types.Cause.{Cause}
+use Rattle.query.specs.declared.types.Cause.the-variants.{NoColon, BadName, EmptyValue}
+use Rattle.query.specs.declared.types.Miss.{Miss}
+use Rattle.query.specs.declared.types.Miss.the-variants.{NotObject, NotArray, NoName, NoNumber}
 use Rattle.query.specs.declared.types.Refusal.{Refusal}
-use Rattle.query.specs.declared.types.Refusal.the-variants.{NoName, NoNumber, Broken}
+use Rattle.query.specs.declared.types.Refusal.the-variants.{Missed, Broken}
 use Rattle.query.specs.declared.types.Answer.{Answer}
 use Rattle.query.specs.declared.types.Answer.the-variants.{Found, Refused}
 use Rattle.paths.proofs.PlaceLaws.{pick-ind}
@@ -26,6 +29,18 @@ use Rattle.walks.proofs.Members as Values
 use Rattle.walks.proofs.Members.{Value, value-is, value-at, framed-exactly, filled-exactly}
 use Rattle.walks.proofs.Borders.{found-stops, broken-stops, no-such-name, first-stops}
 use Rattle.walks.proofs.ItemCount.{ByNumber, few, one, number-exactly}
+
+-- the numbers of a walk that stops
+pub miss-number : (why : Miss) → (23 ≤ missNumber why) × (missNumber why ≤ 26)
+miss-number NotObject = (omega arith, omega arith)
+miss-number NotArray = (omega arith, omega arith)
+miss-number NoName = (omega arith, omega arith)
+miss-number NoNumber = (omega arith, omega arith)
+
+pub cause-number : (why : Cause) → (27 ≤ causeNumber why) × (causeNumber why ≤ 29)
+cause-number NoColon = (omega arith, omega arith)
+cause-number BadName = (omega arith, omega arith)
+cause-number EmptyValue = (omega arith, omega arith)
 
 module _ (byte : ℕ → ℕ) (bits : Bits) where
   -- ---- a step
@@ -55,10 +70,10 @@ module _ (byte : ℕ → ℕ) (bits : Bits) where
       (λ f. not-object (unframed 123 125 a e f))
     where
       go : Framed byte 123 125 a e → (OnlyBlanks byte (a + 1) (e - 1) → ⊥) → (it : Item) → firstItem (itemAt byte bits k n) (bits .comma k) (a + 1) (e - 1) ≡ it
-          → StepGives byte bits k (name n) a e (ofItem NoName it)
+          → StepGives byte bits k (name n) a e (ofItem (Missed NoName k a) k it)
       go w u (Items.Found p q) h = member w u (first-stops byte bits k n (a + 1) (e - 1) (omega arith) (Items.Found p q) found-stops .0 h)
       go w u Items.Other h = no-name w u (no-such-name byte bits k n (a + 1) (e - 1) (omega arith) .0 h)
-      go w u (Items.Broken why) h = broken-member w u (first-stops byte bits k n (a + 1) (e - 1) (omega arith) (Items.Broken why) broken-stops .0 h)
+      go w u (Items.Broken why p) h = broken-member w u (first-stops byte bits k n (a + 1) (e - 1) (omega arith) (Items.Broken why p) broken-stops .0 h)
 
   number-is : (k m a e : ℕ) → StepGives byte bits k (number m) a e (numberStep byte bits k m a e)
   unfolding numberStep
@@ -71,7 +86,7 @@ module _ (byte : ℕ → ℕ) (bits : Bits) where
       (λ f. not-array (unframed 91 93 a e f))
     where
       go : {it : Item} → Framed byte 91 93 a e → (OnlyBlanks byte (a + 1) (e - 1) → ⊥) → ByNumber byte (bits .comma k) m (a + 1) (e - 1) it
-          → StepGives byte bits k (number m) a e (ofItem NoNumber it)
+          → StepGives byte bits k (number m) a e (ofItem (Missed NoNumber k a) k it)
       go w u (few c) = no-number w u c
       go w u (one n (Values.part v)) = element w u n v
       go w u (one n (Values.blank o)) = broken-element w u n o
@@ -79,11 +94,11 @@ module _ (byte : ℕ → ℕ) (bits : Bits) where
   -- past the tests of a value's ends
   module _ (k a e : ℕ) (u : OnlyBlanks byte (a + 1) (e - 1) → ⊥) where
     name-past : (n : List ℕ) {it : Item} → Framed byte 123 125 a e → (a + 1 ≤ e - 1 → firstItem (itemAt byte bits k n) (bits .comma k) (a + 1) (e - 1) ≡ it)
-        → nameStep byte bits k n a e ≡ ofItem NoName it
+        → nameStep byte bits k n a e ≡ ofItem (Missed NoName k a) k it
     unfolding nameStep
     name-past n w h = let l = w .long in rw (framed-exactly byte 123 125 a e .1 w, filled-so 123 125 a e w u, h (omega arith))
 
-    number-past : (m : ℕ) {it : Item} → Framed byte 91 93 a e → ByNumber byte (bits .comma k) m (a + 1) (e - 1) it → numberStep byte bits k m a e ≡ ofItem NoNumber it
+    number-past : (m : ℕ) {it : Item} → Framed byte 91 93 a e → ByNumber byte (bits .comma k) m (a + 1) (e - 1) it → numberStep byte bits k m a e ≡ ofItem (Missed NoNumber k a) k it
     unfolding numberStep
     number-past m {it} w x =
         let l = w .long in
@@ -94,7 +109,7 @@ module _ (byte : ℕ → ℕ) (bits : Bits) where
   gives-step (not-object {n} {a} {e} g) = rw (not-framed 123 125 a e g)
   gives-step (no-member {n} {a} {e} w o) = rw (framed-exactly byte 123 125 a e .1 w, filled-exactly byte a e (w .long) .1 o)
   gives-step {k} {a} {e} (no-name {n} w u h) = name-past k a e u n w (λ l. no-such-name byte bits k n (a + 1) (e - 1) l .1 h)
-  gives-step {k} {a} {e} (broken-member {n} {why} w u h) = name-past k a e u n w (λ l. first-stops byte bits k n (a + 1) (e - 1) l (Items.Broken why) broken-stops .1 h)
+  gives-step {k} {a} {e} (broken-member {n} {p = p} {why = why} w u h) = name-past k a e u n w (λ l. first-stops byte bits k n (a + 1) (e - 1) l (Items.Broken why p) broken-stops .1 h)
   gives-step {k} {a} {e} (member {n} {p} {q} w u h) = name-past k a e u n w (λ l. first-stops byte bits k n (a + 1) (e - 1) l (Items.Found p q) found-stops .1 h)
   gives-step (not-array {m} {a} {e} g) = rw (not-framed 91 93 a e g)
   gives-step (no-element {m} {a} {e} w o) = rw (framed-exactly byte 91 93 a e .1 w, filled-exactly byte a e (w .long) .1 o)
@@ -106,7 +121,7 @@ module _ (byte : ℕ → ℕ) (bits : Bits) where
   step-is k (name n) a e = name-is k n a e
   step-is k (number m) a e = number-is k m a e
 
-  -- 23 to 27 of a step, and its part
+  -- 23 to 29 of a step, and its part
   pub step-gives : (k : ℕ) (s : Selector) (a e : ℕ) (r : Answer) → (stepBy byte bits k s a e ≡ r) ↔ StepGives byte bits k s a e r
   step-gives k s a e r = (λ q. subst (StepGives byte bits k s a e) q (step-is k s a e), gives-step)
 
@@ -133,7 +148,7 @@ module _ (byte : ℕ → ℕ) (bits : Bits) where
   step-number (not-object g) = omega arith
   step-number (no-member w o) = omega arith
   step-number (no-name w u h) = omega arith
-  step-number (broken-member w u h) = omega arith
+  step-number (broken-member {why = why} w u h) = omega (arith, cause-number why)
   step-number (not-array g) = omega arith
   step-number (no-element w o) = omega arith
   step-number (no-number w u c) = omega arith
@@ -148,10 +163,10 @@ module _ (byte : ℕ → ℕ) (bits : Bits) where
 module _ (text : List ℕ) (bits : Bits) (ss : List Selector) where
   walk-is : WalkGives text bits ss (walk text bits ss)
   unfolding walk
-  walk-is = go (value-is (byteIn text) 0 (length text) (omega arith))
+  walk-is = go (value-is (byteIn text) 0 (length text) (omega arith) 0)
     where
-      go : {it : Item} → Value (byteIn text) 0 (length text) it
-          → WalkGives text bits ss (onFound (ofItem (Broken EmptyValue) it) (λ a e. walkFrom (byteIn text) bits 1 ss a e) Refused)
+      go : {it : Item} → Value (byteIn text) 0 0 (length text) it
+          → WalkGives text bits ss (onFound (ofItem (Broken EmptyValue 0 0) 0 it) (λ a e. walkFrom (byteIn text) bits 1 ss a e) Refused)
       go (Values.part {p} {q} v) = within v (from-is (byteIn text) bits 1 ss p q)
       go (Values.blank o) = blank o
 
@@ -160,7 +175,7 @@ module _ (text : List ℕ) (bits : Bits) (ss : List Selector) where
   gives-walk (blank o) = rw (value-at (byteIn text) 0 (length text) (omega arith) (Values.blank o))
   gives-walk (within v g) = rw (value-at (byteIn text) 0 (length text) (omega arith) (Values.part v)) (gives-from (byteIn text) bits g)
 
-  -- 23 to 27 of a walk, and its part
+  -- 23 to 29 of a walk, and its part
   pub walk-gives : (r : Answer) → (walk text bits ss ≡ r) ↔ WalkGives text bits ss r
   walk-gives r = (λ q. subst (WalkGives text bits ss) q walk-is, gives-walk)
 

@@ -43,7 +43,7 @@ count-one t i y = ap (count t) (add-one i) ∙ ap (λ (b : Bool). count t i + di
 
 pub data ByNumber (byte : ℕ → ℕ) (comma : ℕ → Bool) (m a e : ℕ) : Item → Type 0 where
   few : count comma e < count comma a + m → ByNumber byte comma m a e Other
-  one : {s f : ℕ} {r : Item} → Numbered comma a e m s f → Value byte s f r → ByNumber byte comma m a e r
+  one : {s f : ℕ} {r : Item} → Numbered comma a e m s f → Value byte s s f r → ByNumber byte comma m a e r
 
 module _ (byte : ℕ → ℕ) (comma : ℕ → Bool) where
   module _ (m a e : ℕ) (h : a ≤ e) where
@@ -62,7 +62,7 @@ module _ (byte : ℕ → ℕ) (comma : ℕ → Bool) where
 
   number-is : (m a e : ℕ) → a ≤ e → ByNumber byte comma m a e (itemNo byte comma m a e)
   unfolding itemNo
-  number-is zero a e h = one (record { cut = cut-first comma a e h; number = omega arith }) (value-is byte a (firstAt comma a e) (first-ge comma a e h))
+  number-is zero a e h = one (record { cut = cut-first comma a e h; number = omega arith }) (value-is byte a (firstAt comma a e) (first-ge comma a e h) a)
   number-is (suc m) a e h =
       let d = firstAt comma a e in
       pick-ind (ByNumber byte comma (suc m) a e) (ltb d e) _ _ (λ l. by-next m a e h (ltb-true d e l) (number-is m (d + 1) e (omega (arith, ltb-true d e l))))
@@ -90,7 +90,7 @@ module _ (byte : ℕ → ℕ) (comma : ℕ → Bool) where
   by-one {m} {a} {e} (one {s} {f} n v) (one {s = s′} {f = f′} n′ v′) =
       let z = one-start n n′ in
       sym (value-at byte s f (n .cut .order) v)
-      ∙ ap₂ (valueAt byte) z (sym (cut-end (n .cut)) ∙ ap (λ (x : ℕ). firstAt comma x e) z ∙ cut-end (n′ .cut))
+      ∙ ap₂ (λ (x y : ℕ). valueAt byte x x y) z (sym (cut-end (n .cut)) ∙ ap (λ (x : ℕ). firstAt comma x e) z ∙ cut-end (n′ .cut))
       ∙ value-at byte s′ f′ (n′ .cut .order) v′
 
   module _ (m a e : ℕ) (h : a ≤ e) where
@@ -105,8 +105,8 @@ module _ (byte : ℕ → ℕ) (comma : ℕ → Bool) where
         none (few c) = c
 
     -- the item with number m is only blanks
-    pub empty-item : (why : Cause) → (itemNo byte comma m a e ≡ Broken why) ↔ ((s : ℕ) × (f : ℕ) × Numbered comma a e m s f × OnlyBlanks byte s f × (why ≡ EmptyValue))
-    empty-item why = (λ q. some (number-exactly (Broken why) .0 q), λ x. number-exactly (Broken why) .1 (rw (x .4) (one (x .2) (blank (x .3)))))
+    pub empty-item : (why : Cause) (p : ℕ) → (itemNo byte comma m a e ≡ Broken why p) ↔ ((f : ℕ) × Numbered comma a e m p f × OnlyBlanks byte p f × (why ≡ EmptyValue))
+    empty-item why p = (λ q. some (number-exactly (Broken why p) .0 q), λ x. number-exactly (Broken why p) .1 (rw (x .3) (one (x .1) (blank (x .2)))))
       where
-        some : {why : Cause} → ByNumber byte comma m a e (Broken why) → ((s : ℕ) × (f : ℕ) × Numbered comma a e m s f × OnlyBlanks byte s f × (why ≡ EmptyValue))
-        some (one {s} {f} n (blank o)) = (s, f, n, o, refl)
+        some : {why : Cause} {p : ℕ} → ByNumber byte comma m a e (Broken why p) → ((f : ℕ) × Numbered comma a e m p f × OnlyBlanks byte p f × (why ≡ EmptyValue))
+        some (one {s} {f} n (blank o)) = (f, n, o, refl)

@@ -21,10 +21,10 @@ use Rattle.walks.proofs.Giving.{step-gives}
 pub threeItems : List ℕ
 threeItems = 123 ∷ 34 ∷ 97 ∷ 34 ∷ 58 ∷ 49 ∷ 44 ∷ 98 ∷ 44 ∷ 34 ∷ 99 ∷ 34 ∷ 58 ∷ 50 ∷ 125 ∷ []
 
--- `.a` is found: the broken item behind it is not reached. `.c` is 27: the broken item before it stops the step
-pub items-order : StepGives (byteIn threeItems) (ruled threeItems) 1 (name (97 ∷ [])) 0 15 (Found 5 6) × StepGives (byteIn threeItems) (ruled threeItems) 1 (name (99 ∷ [])) 0 15 (Refused (Broken NoColon))
+-- `.a` is found: the broken item behind it is not reached. `.c` is 27 of step 1, at place 7: the broken item before it stops the step
+pub items-order : StepGives (byteIn threeItems) (ruled threeItems) 1 (name (97 ∷ [])) 0 15 (Found 5 6) × StepGives (byteIn threeItems) (ruled threeItems) 1 (name (99 ∷ [])) 0 15 (Refused (Broken NoColon 1 7))
 unfolding threeItems odd count is has runBefore escaped quoteBit inString maskBit plain opener closer atDepth levelBit bitOf listed byteIn firstAt pastLast isBlank itemAt firstItem nameStep
 items-order = (
   step-gives (byteIn threeItems) (ruled threeItems) 1 (name (97 ∷ [])) 0 15 (Found 5 6) .0 refl,
-  step-gives (byteIn threeItems) (ruled threeItems) 1 (name (99 ∷ [])) 0 15 (Refused (Broken NoColon)) .0 refl,
+  step-gives (byteIn threeItems) (ruled threeItems) 1 (name (99 ∷ [])) 0 15 (Refused (Broken NoColon 1 7)) .0 refl,
 )

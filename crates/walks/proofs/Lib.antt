@@ -5,4 +5,5 @@ pub mod ItemCount
 pub mod Giving
 pub mod ItemOrder
 pub mod Numbers
+pub mod Telling
 pub mod Agree

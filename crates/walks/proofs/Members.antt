@@ -22,10 +22,10 @@ use Rattle.query.proofs.Comparing.{same-exactly}
 
 -- ---- a value
 
--- what lies from a to e "without end blanks", or that there are only blanks
-pub data Value (byte : ℕ → ℕ) (a e : ℕ) : Item → Type 0 where
-  part : {p q : ℕ} → Trimmed byte a e p q → Value byte a e (Found p q)
-  blank : OnlyBlanks byte a e → Value byte a e (Broken EmptyValue)
+-- what lies from a to e "without end blanks", or that there are only blanks, in the item that begins at `place`
+pub data Value (byte : ℕ → ℕ) (place a e : ℕ) : Item → Type 0 where
+  part : {p q : ℕ} → Trimmed byte a e p q → Value byte place a e (Found p q)
+  blank : OnlyBlanks byte a e → Value byte place a e (Broken EmptyValue place)
 
 module _ (byte : ℕ → ℕ) (a e : ℕ) (h : a ≤ e) where
   trimmed : trimStart byte a e < trimEnd byte a e → Trimmed byte a e (trimStart byte a e) (trimEnd byte a e)
@@ -53,10 +53,10 @@ module _ (byte : ℕ → ℕ) (a e : ℕ) (h : a ≤ e) where
         | no m ↦ first-miss t a e h i f (omega arith)
       ]
 
-  pub value-is : Value byte a e (valueAt byte a e)
+  pub value-is : (place : ℕ) → Value byte place a e (valueAt byte place a e)
   unfolding valueAt
-  value-is =
-      pick-ind (Value byte a e) (ltb (trimStart byte a e) (trimEnd byte a e)) _ _ (λ l. part (trimmed (ltb-true _ _ l))) (λ l. blank (untrimmed (ltb-false _ _ l)))
+  value-is place =
+      pick-ind (Value byte place a e) (ltb (trimStart byte a e) (trimEnd byte a e)) _ _ (λ l. part (trimmed (ltb-true _ _ l))) (λ l. blank (untrimmed (ltb-false _ _ l)))
 
   trim-start : {p q : ℕ} → Trimmed byte a e p q → trimStart byte a e ≡ p
   trim-start {p} {q} w = first-at (solid byte) a p e (w .from) (omega (arith, w .some, w .to)) (w .before) (w .first)
@@ -64,7 +64,7 @@ module _ (byte : ℕ → ℕ) (a e : ℕ) (h : a ≤ e) where
   trim-end : {p q : ℕ} → Trimmed byte a e p q → trimEnd byte a e ≡ q
   trim-end {p} {q} w = ap (λ (x : ℕ). pastLast (solid byte) x e) (trim-start w) ∙ last-at (solid byte) p q e (w .some) (w .to) (w .last) (w .behind)
 
-  pub value-at : {r : Item} → Value byte a e r → valueAt byte a e ≡ r
+  pub value-at : {place : ℕ} {r : Item} → Value byte place a e r → valueAt byte place a e ≡ r
   unfolding valueAt
   value-at (part {p} {q} w) = rw (trim-end w, trim-start w, lt-ltb p q (w .some))
   value-at (blank o) = rw (first-all (solid byte) a e h o, last-none (solid byte) e e (omega arith), le-ltb e e (omega arith))
@@ -117,7 +117,7 @@ module _ (byte : ℕ → ℕ) (bits : Bits) (k : ℕ) (n : List ℕ) (s f : ℕ)
   first-colon : s ≤ f → firstAt (bits .colon k) s f < f → FirstPlace (bits .colon k) s f (firstAt (bits .colon k) s f)
   first-colon h l = record { from = first-ge (bits .colon k) s f h; inside = l; holds = first-hit (bits .colon k) s f h l; none = first-miss (bits .colon k) s f h }
 
-  named : {d : ℕ} {r : Item} → Whole byte bits k s f d n → Value byte (d + 1) f r → Member byte bits k n s f r
+  named : {d : ℕ} {r : Item} → Whole byte bits k s f d n → Value byte s (d + 1) f r → Member byte bits k n s f r
   named w (part v) = found w v
   named w (blank o) = empty w o
 
@@ -133,7 +133,7 @@ module _ (byte : ℕ → ℕ) (bits : Bits) (k : ℕ) (n : List ℕ) (s f : ℕ)
       let z = quoted-exactly (bits .quote) p q .0 y in
       let w : Whole byte bits k s f d m = record { from = p; to = q; colon = c; front = trimmed byte s d (c .from) (omega (arith, z .long)); quoted = z; name = refl } in
       pick-ind M (same m n) _ _
-      (λ e. named (subst (Whole byte bits k s f d) (same-exactly m n .0 e) w) (value-is byte (d + 1) f (omega (arith, c .inside))))
+      (λ e. named (subst (Whole byte bits k s f d) (same-exactly m n .0 e) w) (value-is byte (d + 1) f (omega (arith, c .inside)) s))
       (λ e. other w (λ g. true≢false (sym (same-exactly m n .1 g) ∙ e))))
       (λ y. bad-name c (λ p′ q′ t z.
       true≢false (sym (ap₂ (quoted (bits .quote)) (trim-start byte s d (c .from) t) (trim-end byte s d (c .from) t) ∙ quoted-exactly (bits .quote) p′ q′ .1 z) ∙ y)))
@@ -149,7 +149,7 @@ module _ (byte : ℕ → ℕ) (bits : Bits) (k : ℕ) (n : List ℕ) (s f : ℕ)
   unfolding itemAt
   at-colon {d} c = rw (first-at (bits .colon k) s d f (c .from) (c .inside) (c .none) (c .holds), lt-ltb d f (c .inside))
 
-  at-name : {d : ℕ} {m : List ℕ} → Whole byte bits k s f d m → itemAt byte bits k n s f ≡ pick (same m n) (valueAt byte (d + 1) f) Other
+  at-name : {d : ℕ} {m : List ℕ} → Whole byte bits k s f d m → itemAt byte bits k n s f ≡ pick (same m n) (valueAt byte s (d + 1) f) Other
   unfolding keyed
   at-name {d} w = at-colon (w .colon)
       ∙ rw (trim-end byte s d (w .colon .from) (w .front), trim-start byte s d (w .colon .from) (w .front), quoted-exactly (bits .quote) (w .from) (w .to) .1 (w .quoted), ← (w .name))

@@ -1,7 +1,7 @@
 -- Each number exactly under its condition, and in its order: what a query answers is what is given, and nothing else is. By the tests of the definition,
 -- one after another, and the exactness of the path's reading and of the walk.
 use Prim.Native.Nat.{ℕ, _≤_, _<_}
-use mathlib.Core.Path.{_≡_, refl, ap, _∙_, subst}
+use mathlib.Core.Path.{_≡_, refl, sym, ap, _∙_, subst}
 use mathlib.Core.Bool.{Bool, true, false, not, _&&_}
 use mathlib.Core.List.{List}
 use mathlib.Core.Logic.{_⊎_, inl, inr, ⊎-elim, _↔_}
@@ -15,11 +15,14 @@ use Rattle.rules.proofs.Booleans.{impossible}
 use Rattle.paths.specs.Grammar.{Selector, Path, RefusedAt}
 use Rattle.paths.specs.Path.{Reading, good, bad, readPath, large}
 use Rattle.query.specs.Items.{lent}
-use Rattle.query.specs.Answers.{refusalNumber, numberOf, placeOf, afterReading, answerOf}
-use Rattle.walks.specs.Conditions.{Sized, Levelled, Lendable, Brief, Walkable, Given, empty, long, levels-out, other-buffer, long-path, no-path, large-number, deep, walked, Walks, WalkGives}
+use Rattle.query.specs.Answers.{missNumber, causeNumber, refusalNumber, refusalPlace, refusalStep, numberOf, placeOf, stepOf, afterReading, answerOf}
+use Rattle.walks.specs.Conditions.{Sized, Levelled, Lendable, Brief, Walkable, Given, empty, long, levels-out, other-buffer, long-path, no-path, large-number, deep, walked, Walks, Misses, Breaks, Says, WalkGives}
+use Rattle.query.specs.declared.types.Miss.{Miss}
+use Rattle.query.specs.declared.types.Miss.the-variants.{NotObject, NotArray, NoName, NoNumber}
 use Rattle.query.specs.declared.types.Cause.{Cause}
+use Rattle.query.specs.declared.types.Cause.the-variants.{NoColon, BadName, EmptyValue}
 use Rattle.query.specs.declared.types.Refusal.{Refusal}
-use Rattle.query.specs.declared.types.Refusal.the-variants.{EmptyRecord, LongRecord, BadLevels, BadBuffer, BadPath, TooLarge, TooDeep, NotObject, NotArray, NoName, NoNumber, Broken}
+use Rattle.query.specs.declared.types.Refusal.the-variants.{EmptyRecord, LongRecord, BadLevels, BadBuffer, BadPath, TooLarge, TooDeep, Missed, Broken}
 use Rattle.query.specs.declared.types.Answer.{Answer}
 use Rattle.query.specs.declared.types.Answer.the-variants.{Found, Refused}
 use Rattle.paths.proofs.PlaceLaws.{pick-ind}
@@ -115,10 +118,11 @@ module _ (text words : List ℕ) (levels : ℕ) (path : List ℕ) where
       (pick (eqb n 20) ((p : ℕ) × Brief text words levels path × RefusedAt path p)
       (pick (eqb n 21) ((Lendable text words levels × (1024 < length path)) ⊎ ((ss : List Selector) × Brief text words levels path × Path path ss × (large ss ≡ true)))
       (pick (eqb n 22) ((ss : List Selector) × Brief text words levels path × Path path ss × (large ss ≡ false) × (levels < length ss))
-      (pick (eqb n 23) (Walks text words levels path (Refused NotObject))
-      (pick (eqb n 24) (Walks text words levels path (Refused NotArray))
-      (pick (eqb n 25) (Walks text words levels path (Refused NoName))
-      (pick (eqb n 26) (Walks text words levels path (Refused NoNumber)) ((why : Cause) × Walks text words levels path (Refused (Broken why))))))))))))))
+      (pick (eqb n 23) (Misses text words levels path NotObject)
+      (pick (eqb n 24) (Misses text words levels path NotArray)
+      (pick (eqb n 25) (Misses text words levels path NoName)
+      (pick (eqb n 26) (Misses text words levels path NoNumber)
+      (pick (eqb n 27) (Breaks text words levels path NoColon) (pick (eqb n 28) (Breaks text words levels path BadName) (Breaks text words levels path EmptyValue))))))))))))))
 
   walked-number : {ss : List Selector} → Walkable text words levels path ss → (r : Answer) → WalkGives text (lent words levels (widthOf (length text))) ss r → Condition (numberOf r)
   walked-number {ss} w (Found s e) g = (s, e, record { selectors = ss; walkable = w; gives = g })
@@ -132,11 +136,13 @@ module _ (text words : List ℕ) (levels : ℕ) (path : List ℕ) where
       halted (BadPath p) g l = absurd (omega arith)
       halted TooLarge g l = absurd (omega arith)
       halted TooDeep g l = absurd (omega arith)
-      halted NotObject g l = record { selectors = ss; walkable = w; gives = g }
-      halted NotArray g l = record { selectors = ss; walkable = w; gives = g }
-      halted NoName g l = record { selectors = ss; walkable = w; gives = g }
-      halted NoNumber g l = record { selectors = ss; walkable = w; gives = g }
-      halted (Broken why) g l = (why, record { selectors = ss; walkable = w; gives = g })
+      halted (Missed NotObject k p) g l = (k, p, record { selectors = ss; walkable = w; gives = g })
+      halted (Missed NotArray k p) g l = (k, p, record { selectors = ss; walkable = w; gives = g })
+      halted (Missed NoName k p) g l = (k, p, record { selectors = ss; walkable = w; gives = g })
+      halted (Missed NoNumber k p) g l = (k, p, record { selectors = ss; walkable = w; gives = g })
+      halted (Broken NoColon k p) g l = (k, p, record { selectors = ss; walkable = w; gives = g })
+      halted (Broken BadName k p) g l = (k, p, record { selectors = ss; walkable = w; gives = g })
+      halted (Broken EmptyValue k p) g l = (k, p, record { selectors = ss; walkable = w; gives = g })
 
   numbered : {r : Answer} → Given text words levels path r → Condition (numberOf r)
   numbered (empty e) = e
@@ -196,19 +202,52 @@ module _ (text words : List ℕ) (levels : ℕ) (path : List ℕ) where
   number-22 = (λ e. because e, λ h. so (deep (h .1) (h .2) (h .3) (h .4)))
 
   -- "value is not an object / not an array"
-  pub number-23 : (numberOf (answerOf text words levels path) ≡ 23) ↔ (Walks text words levels path (Refused NotObject))
-  number-23 = (λ e. because e, λ h. walks-so h)
+  pub number-23 : (numberOf (answerOf text words levels path) ≡ 23) ↔ Misses text words levels path NotObject
+  number-23 = (λ e. because e, λ h. walks-so (h .2))
 
-  pub number-24 : (numberOf (answerOf text words levels path) ≡ 24) ↔ (Walks text words levels path (Refused NotArray))
-  number-24 = (λ e. because e, λ h. walks-so h)
+  pub number-24 : (numberOf (answerOf text words levels path) ≡ 24) ↔ Misses text words levels path NotArray
+  number-24 = (λ e. because e, λ h. walks-so (h .2))
 
   -- "no such name / no such number"
-  pub number-25 : (numberOf (answerOf text words levels path) ≡ 25) ↔ (Walks text words levels path (Refused NoName))
-  number-25 = (λ e. because e, λ h. walks-so h)
+  pub number-25 : (numberOf (answerOf text words levels path) ≡ 25) ↔ Misses text words levels path NoName
+  number-25 = (λ e. because e, λ h. walks-so (h .2))
 
-  pub number-26 : (numberOf (answerOf text words levels path) ≡ 26) ↔ (Walks text words levels path (Refused NoNumber))
-  number-26 = (λ e. because e, λ h. walks-so h)
+  pub number-26 : (numberOf (answerOf text words levels path) ≡ 26) ↔ Misses text words levels path NoNumber
+  number-26 = (λ e. because e, λ h. walks-so (h .2))
 
-  -- "broken item", whatever its cause
-  pub number-27 : (numberOf (answerOf text words levels path) ≡ 27) ↔ ((why : Cause) × Walks text words levels path (Refused (Broken why)))
-  number-27 = (λ e. because e, λ h. walks-so (h .1))
+  -- "27 no colon, 28 bad name, 29 empty value"
+  pub number-27 : (numberOf (answerOf text words levels path) ≡ 27) ↔ Breaks text words levels path NoColon
+  number-27 = (λ e. because e, λ h. walks-so (h .2))
+
+  pub number-28 : (numberOf (answerOf text words levels path) ≡ 28) ↔ Breaks text words levels path BadName
+  number-28 = (λ e. because e, λ h. walks-so (h .2))
+
+  pub number-29 : (numberOf (answerOf text words levels path) ≡ 29) ↔ Breaks text words levels path EmptyValue
+  number-29 = (λ e. because e, λ h. walks-so (h .2))
+
+  -- ---- with step and place
+
+  walks-say : {why : Refusal} → Walks text words levels path (Refused why) → Says text words levels path (refusalNumber why) (refusalStep why) (refusalPlace why)
+  walks-say h = let e = given-answer (walked (h .walkable) (h .gives)) in (ap numberOf e, ap stepOf e, ap placeOf e)
+
+  -- a walk that stops stops at the step and place that are told
+  there : {n k p j q : ℕ} (at : ℕ → ℕ → Refusal) → Says text words levels path n k p → Says text words levels path n j q → Walks text words levels path (Refused (at j q)) → Walks text words levels path (Refused (at k p))
+  there {k = k} {q = q} at s t w =
+      subst (λ (y : ℕ). Walks text words levels path (Refused (at k y))) (sym (t .2) ∙ s .2) (subst (λ (x : ℕ). Walks text words levels path (Refused (at x q))) (sym (t .1) ∙ s .1) w)
+
+  pub missed-exactly : (why : Miss) (k p : ℕ) → Says text words levels path (missNumber why) k p ↔ Walks text words levels path (Refused (Missed why k p))
+  missed-exactly why k p = (λ s. let h = some why (s .0) in there (Missed why) s (walks-say (h .2)) (h .2), λ w. walks-say w)
+    where
+      some : (why : Miss) → numberOf (answerOf text words levels path) ≡ missNumber why → Misses text words levels path why
+      some NotObject e = because e
+      some NotArray e = because e
+      some NoName e = because e
+      some NoNumber e = because e
+
+  pub broken-exactly : (why : Cause) (k p : ℕ) → Says text words levels path (causeNumber why) k p ↔ Walks text words levels path (Refused (Broken why k p))
+  broken-exactly why k p = (λ s. let h = some why (s .0) in there (Broken why) s (walks-say (h .2)) (h .2), λ w. walks-say w)
+    where
+      some : (why : Cause) → numberOf (answerOf text words levels path) ≡ causeNumber why → Breaks text words levels path why
+      some NoColon e = because e
+      some BadName e = because e
+      some EmptyValue e = because e

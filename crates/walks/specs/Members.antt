@@ -44,6 +44,10 @@ pub record Framed (byte : ℕ → ℕ) (head tail a e : ℕ) : Type 0 where
   pub first : byte a ≡ head
   pub last : byte (e - 1) ≡ tail
 
+-- an object or an array. (123 and 125 are `{` and `}`, 91 and 93 `[` and `]`.)
+abbrev pub Bracketed : (ℕ → ℕ) → ℕ → ℕ → Type 0
+Bracketed byte a e = Framed byte 123 125 a e ⊎ Framed byte 91 93 a e
+
 -- ---- its items
 
 -- "What lies between is cut at the commas": of what lies from a to e, an item lies from s to f
@@ -88,13 +92,13 @@ pub record Whole (byte : ℕ → ℕ) (bits : Bits) (k s f d : ℕ) (m : List �
   pub quoted : Quoted (bits .quote) from to
   pub name : m ≡ between byte (from + 1) (to - 1)
 
--- what an item from s to f is to step number k, by the name n
+-- what an item from s to f is to step number k, by the name n; a broken one tells s, "the byte after the bracket or comma before it"
 pub data Member (byte : ℕ → ℕ) (bits : Bits) (k : ℕ) (n : List ℕ) (s f : ℕ) : Item → Type 0 where
   -- "An item is broken if it has no colon of level k"
-  no-colon : Nowhere (bits .colon k) s f → Member byte bits k n s f (Broken NoColon)
+  no-colon : Nowhere (bits .colon k) s f → Member byte bits k n s f (Broken NoColon s)
   -- "or if what precedes the first such colon, without end blanks, is not" quoted
-  bad-name : {d : ℕ} → FirstPlace (bits .colon k) s f d → ((p q : ℕ) → Trimmed byte s d p q → Quoted (bits .quote) p q → ⊥) → Member byte bits k n s f (Broken BadName)
+  bad-name : {d : ℕ} → FirstPlace (bits .colon k) s f d → ((p q : ℕ) → Trimmed byte s d p q → Quoted (bits .quote) p q → ⊥) → Member byte bits k n s f (Broken BadName s)
   other : {d : ℕ} {m : List ℕ} → Whole byte bits k s f d m → (m ≡ n → ⊥) → Member byte bits k n s f Other
-  -- "whose name has the path's bytes .. The value is what follows that colon, without end blanks; empty is 27"
-  empty : {d : ℕ} → Whole byte bits k s f d n → OnlyBlanks byte (d + 1) f → Member byte bits k n s f (Broken EmptyValue)
+  -- "whose name has the path's bytes .. The value is what follows that colon, without end blanks"; empty is 29
+  empty : {d : ℕ} → Whole byte bits k s f d n → OnlyBlanks byte (d + 1) f → Member byte bits k n s f (Broken EmptyValue s)
   found : {d p q : ℕ} → Whole byte bits k s f d n → Trimmed byte (d + 1) f p q → Member byte bits k n s f (Found p q)

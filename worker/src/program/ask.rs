@@ -13,6 +13,7 @@ use super::progress::Progress;
 use super::reading;
 use super::sentences;
 use super::status::{say, Status, Stop};
+use super::steps;
 
 pub const OPTIONS: &[Known] = &[("--where", false), ("--json", false)];
 
@@ -24,11 +25,12 @@ enum Form {
     Json,
 }
 
-/// What a path comes to: number, start and end as the showing program tells them, the part, and a sentence.
+/// What a path comes to: its number, where the part lies or the number's place twice, the step, the part, and a sentence.
 struct Answer<'r> {
     number: u64,
     start: usize,
     end: usize,
+    step: usize,
     part: Option<&'r [u8]>,
     message: String,
 }
@@ -70,10 +72,9 @@ fn answer(paths: &[&[u8]], file: &OsString, form: Form) -> Result<Status, Stop> 
     Ok(status)
 }
 
-/// As many levels as the longest path has steps: each step has a dot or an opening bracket.
+/// As many levels as the longest path has steps.
 fn levels(paths: &[&[u8]]) -> usize {
-    let steps = |path: &&[u8]| path.iter().filter(|byte| matches!(byte, b'.' | b'[')).count();
-    paths.iter().map(steps).max().unwrap_or(1).clamp(1, LEVELS)
+    paths.iter().map(|path| steps::count(path)).max().unwrap_or(1).clamp(1, LEVELS)
 }
 
 fn ask_each(out: &mut impl Write, index: &Index, paths: &[&[u8]], form: Form) -> io::Result<Status> {
@@ -85,7 +86,7 @@ fn ask_each(out: &mut impl Write, index: &Index, paths: &[&[u8]], form: Form) ->
                 not_found(error).write(out, path, form)?;
                 // the lines of the paths before it come before its message
                 out.flush()?;
-                say(&sentences::of_path(path, error));
+                say(&sentences::of_path(path, index.record(), error));
                 status = status.max(error.into());
             }
         }
@@ -95,24 +96,26 @@ fn ask_each(out: &mut impl Write, index: &Index, paths: &[&[u8]], form: Form) ->
 
 fn found<'r>(index: &Index<'r>, place: std::ops::Range<usize>) -> Answer<'r> {
     let (start, end) = (place.start, place.end);
-    Answer { number: 0, start, end, part: Some(&index.record()[place]), message: "found".into() }
+    Answer { number: 0, start, end, step: 0, part: Some(&index.record()[place]), message: "found".into() }
 }
 
 fn not_found(error: AskError) -> Answer<'static> {
-    let place = error.place();
-    Answer { number: error.number(), start: place, end: place, part: None, message: error.to_string() }
+    refused(error.number(), error.place(), error.step(), error.to_string())
 }
 
 fn unindexed(error: IndexError) -> Answer<'static> {
-    let place = error.place();
-    Answer { number: error.number(), start: place, end: place, part: None, message: error.to_string() }
+    refused(error.number(), error.place(), 0, error.to_string())
+}
+
+fn refused(number: u64, place: usize, step: usize, message: String) -> Answer<'static> {
+    Answer { number, start: place, end: place, step, part: None, message }
 }
 
 impl Answer<'_> {
     fn write(&self, out: &mut impl Write, path: &[u8], form: Form) -> io::Result<()> {
         match form {
             Form::Value => out.write_all(self.part.unwrap_or_default())?,
-            Form::Where => write!(out, "{} {} {}", self.number, self.start, self.end)?,
+            Form::Where => write!(out, "{} {} {} {}", self.number, self.start, self.end, self.step)?,
             Form::Json => self.write_json(out, path)?,
         }
         out.write_all(b"\n")
@@ -121,7 +124,8 @@ impl Answer<'_> {
     fn write_json(&self, out: &mut impl Write, path: &[u8]) -> io::Result<()> {
         out.write_all(b"{\"path\":")?;
         write_string(out, &String::from_utf8_lossy(path))?;
-        write!(out, ",\"number\":{},\"start\":{},\"end\":{},\"value\":", self.number, self.start, self.end)?;
+        write!(out, ",\"number\":{},\"start\":{},\"end\":{},", self.number, self.start, self.end)?;
+        write!(out, "\"step\":{},\"value\":", self.step)?;
         match self.part.map(std::str::from_utf8) {
             Some(Ok(text)) => write_string(out, text)?,
             _ => out.write_all(b"null")?,

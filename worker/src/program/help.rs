@@ -21,13 +21,16 @@ Prints the part of the record that each path leads to, a line each. The line of 
 finds nothing is empty, and a message tells why. PATH is $, then steps .name or [number]:
 '$.frames[7].tiles[0].rate'. FILE - is standard input.
 
-  --where    number, start and end of each part instead, end not included; 0 is found
-  --json     an object for each path instead, a line each
+  --where    number, start, end and step instead, end not included; number 0 is found. 23 to 29
+             tell the step of the path, from 1, and as start and end a place in the record: where
+             the value begins that the step works in, or the broken item. 20 tells its place in
+             the path. A step of 0 is none
+  --json     an object for each path instead, a line each, with the same numbers
   --         what follows is no option
 
 Exit status: 0 all found; 1 a path finds nothing (23 to 26); 2 the record has a fault (13 to 16)
-or a broken item (27), is empty (1) or too long (2); 64 wrong use, and paths that are none (20 to
-22); 66 the file cannot be read. Of several, the greatest.
+or a broken item (27 to 29), is empty (1) or too long (2); 64 wrong use, and paths that are none
+(20 to 22); 66 the file cannot be read. Of several, the greatest.
 
   printf '{\"a\":1,\"b\":[2,30]}' | wararish ask '$.b[1]' -
 ";

@@ -1,8 +1,11 @@
 //! Messages about records and paths: a sentence with its number, the bytes at its place, and a caret below.
 
-use wararish::{AskError, IndexError};
+use std::fmt::Display;
+
+use wararish::{AskError, IndexError, Where};
 
 use super::reading::Input;
+use super::steps;
 
 /// How many bytes are shown before a place, and behind it.
 const ASIDE: usize = 30;
@@ -25,16 +28,25 @@ pub fn of_record(input: &Input, error: IndexError) -> String {
     format!("{name}: {error}, {place} ({number})\n{window}")
 }
 
-/// Why a path leads nowhere.
-pub fn of_path(path: &[u8], error: AskError) -> String {
-    let sentence = format!("{}: {error} ({})", shown(path), error.number());
-    match error {
-        AskError::NoPath(place) => format!("{sentence}\n{}", window(path, place)),
-        _ => sentence,
-    }
+/// Why a path leads nowhere in a record. That a record is blank all through needs no bytes to be seen.
+pub fn of_path(path: &[u8], record: &[u8], error: AskError) -> String {
+    let (why, window) = match error {
+        AskError::NoPath(place) => (error.to_string(), window(path, place)),
+        AskError::Miss(kind, at) => of_step(path, record, kind, at),
+        AskError::Broken(kind, at) if at.step > 0 => of_step(path, record, kind, at),
+        _ => return format!("{}: {error} ({})", shown(path), error.number()),
+    };
+    format!("{}: {why} ({})\n{window}", shown(path), error.number())
 }
 
-/// A path as a sentence shows it.
+/// What a step of a path meets in the record, and the bytes there.
+fn of_step(path: &[u8], record: &[u8], kind: impl Display, at: Where) -> (String, String) {
+    let step = shown(steps::text(path, at.step));
+    let (place, window) = in_record(record, at.place);
+    (format!("step {}, {step}: {kind}, at byte {}, {place}", at.step, at.place), window)
+}
+
+/// A path, or a step of one, as a sentence shows it.
 fn shown(path: &[u8]) -> String {
     if path.len() <= SHOWN {
         return printable(path);
@@ -49,21 +61,32 @@ fn window(bytes: &[u8], place: usize) -> String {
     format!("  {}\n  {:>width$}", printable(&bytes[from..to]), '^', width = place - from + 1)
 }
 
-/// A line of a record: its number from 1, and where it begins and ends.
+/// A line of a record: its number from 1, where it begins, and how far it is shown.
 struct Line {
     number: usize,
     start: usize,
     end: usize,
 }
 
-/// The line of a place, up to its line feed. The record's end is in the line of the last byte, also of a line feed.
+/// The line of a place, up to its line feed. The record's end is in the line of the last byte, also of a line feed. A broken
+/// item may begin with blanks and line feeds: what stands behind them is shown too.
 fn line_of(record: &[u8], place: usize) -> Line {
     let at_end = place == record.len();
     let before = &record[..if at_end { place.saturating_sub(1) } else { place }];
-    let start = before.iter().rposition(|&byte| byte == b'\n').map_or(0, |i| i + 1);
-    let number = 1 + before.iter().filter(|&&byte| byte == b'\n').count();
-    let rest = record[place..].iter().position(|&byte| byte == b'\n').unwrap_or(record.len() - place);
-    Line { number, start, end: place + rest }
+    let feeds = line_feeds(before);
+    // a long record of one line is not looked through from behind
+    let start = if feeds == 0 { 0 } else { before.iter().rposition(|&byte| byte == b'\n').map_or(0, |i| i + 1) };
+    let behind = &record[place..record.len().min(place + ASIDE)];
+    let blanks = behind.iter().take_while(|byte| matches!(byte, b' ' | b'\t' | b'\n' | b'\r')).count();
+    let rest = behind[blanks..].iter().position(|&byte| byte == b'\n').map_or(behind.len(), |i| blanks + i);
+    Line { number: 1 + feeds, start, end: place + rest }
+}
+
+/// How many line feeds there are, in parts that a byte can count, which is fast: a record may be long, and each of many
+/// paths may have a message.
+fn line_feeds(bytes: &[u8]) -> usize {
+    let few = |part: &[u8]| part.iter().fold(0u8, |feeds, &byte| feeds.wrapping_add(u8::from(byte == b'\n')));
+    bytes.chunks(128).map(|part| usize::from(few(part))).sum()
 }
 
 /// Where a place of the record is, in lines and columns (from 1, a column a byte), and the bytes there.
@@ -85,6 +108,16 @@ mod tests {
         assert_eq!(shown(b"[1,\"\xc3\xa9\t", 7), ("line 1, column 8".into(), "  [1,\"...\n         ^".into()));
         assert_eq!(shown(b"[\n[\n", 4), ("line 2, column 3".into(), "  [.\n    ^".into()));
         assert_eq!(shown(b"[\n\n]]", 4), ("line 3, column 2".into(), "  ]]\n   ^".into()));
+        assert_eq!(shown(b"{ \n  x\n}", 1), ("line 1, column 2".into(), "  { .  x\n   ^".into()));
+        assert_eq!(shown(b"[1, \r\n\n", 3), ("line 1, column 4".into(), "  [1, ...\n     ^".into()));
+    }
+
+    #[test]
+    fn lines_are_counted_in_a_long_record() {
+        let record = [&[b'\n'; 1000][..], b"x\n", &[b'x'; 1000]].concat();
+        for (place, told) in [(127, (128, 1)), (256, (257, 1)), (1001, (1001, 2)), (1500, (1002, 499))] {
+            assert_eq!(in_record(&record, place).0, format!("line {}, column {}", told.0, told.1));
+        }
     }
 
     #[test]

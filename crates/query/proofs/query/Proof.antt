@@ -5,17 +5,17 @@ use native.Mathlib.Omega.{arith}
 use lib.ListN.{length}
 use Rattle.query.specs.declared.types.Answer.{Answer}
 use Rattle.query.specs.declared.types.Answer.the-variants.{Found}
-use Rattle.query.specs.Answers.{numberOf, placeOf, startOf, partOf}
+use Rattle.query.specs.Answers.{numberOf, placeOf, stepOf, startOf, partOf}
 use Rattle.query.proofs.Inside.{InRecord, answer-in}
 use borrow.Author.Needs.{needs}
 use Rattle.query.proofs.query.Statement.{statement}
 use Rattle.query.proofs.query.Tie as tie
 
 -- what is found lies in the record
-within : (c : tie.After-known-told) → InRecord (length (c .before .before .before .before .before .before .before .before .before .args .text .now)) (Found (c .before .told .given .0 .0) (c .before .told .given .0 .1 .0))
+within : (c : tie.After-known-told) → InRecord (length (c .before .before .before .before .before .before .before .before .before .before .args .text .now)) (Found (c .before .told .given .0 .0) (c .before .told .given .0 .1 .0))
 within c =
-    let a = c .before .before .before .before .before .before .before .before .before .args in
-    subst (InRecord (length (a .text .now))) (sym (c .before .before .before .before .before .answer .ensures) ∙ c .before .told .given .1) (answer-in (a .text .now) (a .words .now) (a .levels) (a .path .now))
+    let a = c .before .before .before .before .before .before .before .before .before .before .args in
+    subst (InRecord (length (a .text .now))) (sym (c .before .before .before .before .before .before .answer .ensures) ∙ c .before .told .given .1) (answer-in (a .text .now) (a .words .now) (a .levels) (a .path .now))
 
 answer-requires : tie.Need-answer-requires
 answer-requires c κs = search needs
@@ -25,6 +25,9 @@ number-requires c κs = search needs
 
 place-requires : tie.Need-place-requires
 place-requires c κs = search needs
+
+step-requires : tie.Need-step-requires
+step-requires c κs = search needs
 
 enum-known-told : tie.Need-enum-known-told
 enum-known-told c = search needs
@@ -46,28 +49,30 @@ slice-aggregate-result c = search needs
 
 returns : tie.Need-returns
 returns c =
-    let a = c .before .before .before .before .before .before .before .before .before .before .args in
-    let is = c .before .before .before .before .before .before .answer .ensures in
+    let a = c .before .before .before .before .before .before .before .before .before .before .before .args in
+    let is = c .before .before .before .before .before .before .before .answer .ensures in
     let found = sym (c .before .before .told .given .1) ∙ is in
     record {
       part-is = ap (partOf (a .text .now)) found;
       memory-is = refl;
       offset-is = ap (λ (r : Answer). startOf r + a .text .ptr .1) found;
-      number-is = c .before .before .before .before .before .number .ensures ∙ ap numberOf is;
-      place-is = c .before .before .before .before .place .ensures ∙ ap placeOf is;
+      number-is = c .before .before .before .before .before .before .number .ensures ∙ ap numberOf is;
+      place-is = c .before .before .before .before .before .place .ensures ∙ ap placeOf is;
+      step-is = c .before .before .before .before .step .ensures ∙ ap stepOf is;
     }
 
 returns-2 : tie.Need-returns-2
 returns-2 c =
-    let a = c .before .before .before .before .before .before .before .before .before .args in
-    let is = c .before .before .before .before .before .answer .ensures in
+    let a = c .before .before .before .before .before .before .before .before .before .before .args in
+    let is = c .before .before .before .before .before .before .answer .ensures in
     let refused = sym (c .before .enum-told .given .1) ∙ is in
     record {
       part-is = ap (partOf (a .text .now)) refused;
       memory-is = refl;
       offset-is = let z = ap startOf refused in omega arith;
-      number-is = c .before .before .before .before .number .ensures ∙ ap numberOf is;
-      place-is = c .before .before .before .place .ensures ∙ ap placeOf is;
+      number-is = c .before .before .before .before .before .number .ensures ∙ ap numberOf is;
+      place-is = c .before .before .before .before .place .ensures ∙ ap placeOf is;
+      step-is = c .before .before .before .step .ensures ∙ ap stepOf is;
     }
 
 pub query-spec : {M : Type 1} → statement M
@@ -77,6 +82,7 @@ query-spec =
     answer-requires
     number-requires
     place-requires
+    step-requires
     enum-known-told
     sub-result
     part-result-start

@@ -30,7 +30,7 @@ returns c =
 walk-path-requires : tie.Need-walk-path-requires
 walk-path-requires c κs =
     let n = length (c .before .before .before .before .before .before .before .args .text .now) in
-    let i = subst (ItemInRecord n) (sym (c .before .before .before .value-at .ensures) ∙ c .before .whole .given .1) (value-in (byteIn (c .before .before .before .before .before .before .before .args .text .now)) 0 n n (omega arith) (omega arith)) in
+    let i = subst (ItemInRecord n) (sym (c .before .before .before .value-at .ensures) ∙ c .before .whole .given .1) (value-in (byteIn (c .before .before .before .before .before .before .before .args .text .now)) 0 0 n n (omega arith) (omega arith)) in
     (c .before .before .before .before .before .before .before .pre .0, ((omega (arith, i), i .1), c .before .before .before .before .before .before .before .pre .1))
 
 returns-2 : tie.Need-returns-2
