@@ -1,5 +1,5 @@
 -- What the showing program prints, by the record: a fault's number and place whatever the path, and over a sound record what the query answers
--- over the index.
+-- over the index; and which places it prints of a refusal.
 use Prim.Native.Nat.{ℕ, zero, suc, _+_, _*_, _-_, _/_, _≤_, _<_}
 use mathlib.Core.Path.{_≡_, refl, sym, ap, _∙_}
 use mathlib.Core.Bool.{Bool, false}
@@ -12,7 +12,13 @@ use Rattle.rules.proofs.LayoutLaws.{getD-listed}
 use Rattle.index.specs.declared.Answer.the-variants.{Done}
 use Rattle.index.specs.Opening.{badCut, first, firstBad, opening}
 use Rattle.index.proofs.OpenLaws.{cutBefore, good-cut, if-opened}
-use Rattle.query.specs.Answers.{answerOf}
+use Rattle.query.specs.declared.types.Miss.{Miss}
+use Rattle.query.specs.declared.types.Miss.the-variants.{NotObject, NotArray, NoName, NoNumber}
+use Rattle.query.specs.declared.types.Cause.{Cause}
+use Rattle.query.specs.declared.types.Cause.the-variants.{NoColon, BadName, EmptyValue}
+use Rattle.query.specs.declared.types.Refusal.the-variants.{BadPath, Missed, Broken}
+use Rattle.query.specs.declared.types.Answer.the-variants.{Refused}
+use Rattle.query.specs.Answers.{missNumber, causeNumber, answerOf}
 use Rattle.runs.specs.Whole.{WholeRun, plainly}
 use Rattle.runs.proofs.Theorems.{sound-closes, faulty-closes}
 use Rattle.runs.proofs.Whole.{whole-run}
@@ -20,6 +26,25 @@ use Rattle.runs.proofs.Plain.{plain-steps, plain-complete}
 use Rattle.show.specs.Running.{multiples, cutsOf}
 use Rattle.show.specs.Printing.{pathEnd, pathOf, recordOf, placed, queryPrinted, printedIn, zeros, printedOf, shown}
 use Rattle.show.proofs.Inputs.{multiples-long, zeros-long, both}
+
+-- ---- the line of a refusal
+
+-- 20 prints its place in the path twice
+pub path-printed : (p : ℕ) → queryPrinted (Refused (BadPath p)) ≡ placed 20 p
+path-printed p = refl
+
+-- "The program goes on printing 0 0" for 23 to 26
+pub miss-printed : (why : Miss) (k p : ℕ) → queryPrinted (Refused (Missed why k p)) ≡ placed (missNumber why) 0
+miss-printed NotObject k p = refl
+miss-printed NotArray k p = refl
+miss-printed NoName k p = refl
+miss-printed NoNumber k p = refl
+
+-- and for 27 to 29
+pub broken-printed : (why : Cause) (k p : ℕ) → queryPrinted (Refused (Broken why k p)) ≡ placed (causeNumber why) 0
+broken-printed NoColon k p = refl
+broken-printed BadName k p = refl
+broken-printed EmptyValue k p = refl
 
 -- ---- the cuts and words that are lent open a job
 

@@ -193,6 +193,6 @@ module _ (byte : ℕ → ℕ) (bits : Bits) (k : ℕ) (n : List ℕ) (a e : ℕ)
   pub no-such-name : (firstItem (itemAt byte bits k n) (bits .comma k) a e ≡ Other) ↔ AllOther (Member byte bits k n) (bits .comma k) a e
   no-such-name = none-taken (itemAt byte bits k n) (Member byte bits k n) (item-exactly byte bits k n) (bits .comma k) a e h
 
-  -- "The walk stops at the first broken item (27) or the first item whose name has the path's bytes"
+  -- "The walk stops at the first broken item .. or the first item whose name has the path's bytes"
   pub first-stops : (r : Item) → (r ≡ Other → ⊥) → (firstItem (itemAt byte bits k n) (bits .comma k) a e ≡ r) ↔ FirstIs (Member byte bits k n) (bits .comma k) a e r
   first-stops = first-taken (itemAt byte bits k n) (Member byte bits k n) (item-exactly byte bits k n) (bits .comma k) a e h

@@ -25,7 +25,8 @@ use Rattle.query.specs.declared.types.Answer.the-variants.{Found, Refused}
 
 -- ---- the walk
 
--- what step number k gives in the value from a to e; a miss tells a, "the first byte of the value the step works in". (123 and 125 are `{` and `}`, 91 and 93 `[` and `]`.)
+-- what step number k gives in the value from a to e; a miss tells a, "the first byte of the value the step works in". (123 and 125 are `{` and `}`,
+-- 91 and 93 `[` and `]`.)
 pub data StepGives (byte : ℕ → ℕ) (bits : Bits) (k : ℕ) : Selector → ℕ → ℕ → Answer → Type 0 where
   not-object : {n : List ℕ} {a e : ℕ} → (Framed byte 123 125 a e → ⊥) → StepGives byte bits k (name n) a e (Refused (Missed NotObject k a))
   no-member : {n : List ℕ} {a e : ℕ} → Framed byte 123 125 a e → OnlyBlanks byte (a + 1) (e - 1) → StepGives byte bits k (name n) a e (Refused (Missed NoName k a))
@@ -131,7 +132,7 @@ pub data Tells (text : List ℕ) (bits : Bits) (ss : List Selector) : (number st
   -- "for an all-blank record step 0, place 0"
   all-blank : OnlyBlanks (byteIn text) 0 (length text) → Tells text bits ss 29 0 0
 
--- so much of a query that gives one of them
+-- a query that gives one of them has walked along its path, and tells this
 pub record Stopped (text words : List ℕ) (levels : ℕ) (path : List ℕ) (number step place : ℕ) : Type 0 where
   pub selectors : List Selector
   pub walkable : Walkable text words levels path selectors

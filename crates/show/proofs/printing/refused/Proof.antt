@@ -1,5 +1,4 @@
 -- By whether the number is one of 23 to 29.
-use Prim.Native.Nat.{ℕ}
 use mathlib.Core.Path.{_∙_}
 use borrow.Author.Tests.{lt-ltb, le-ltb}
 use borrow.Author.Needs.{needs}
