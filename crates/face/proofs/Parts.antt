@@ -3,7 +3,7 @@
 use Prim.Native.Nat.{ℕ, _+_, _-_, _≤_, _<_}
 use mathlib.Core.Path.{_≡_, sym, _∙_, subst}
 use mathlib.Core.List.{List}
-use mathlib.Core.Logic.{_⊎_, inl, inr, ⊎-elim}
+use mathlib.Core.Logic.{_⊎_, inl, inr}
 use native.Mathlib.Omega.{arith}
 use lib.ListN.{length, take, drop, length-drop}
 use lib.Seq.{length-take-le}
@@ -17,16 +17,16 @@ use Rattle.walks.proofs.Giving.{miss-number, cause-number}
 use Rattle.walks.proofs.Telling.{told-inside}
 use Rattle.face.specs.Outcomes.{QueryTells}
 
-refused-number : (why : Refusal) → ((1 ≤ refusalNumber why) × (refusalNumber why ≤ 4)) ⊎ ((20 ≤ refusalNumber why) × (refusalNumber why ≤ 29))
-refused-number EmptyRecord = inl (omega arith, omega arith)
-refused-number LongRecord = inl (omega arith, omega arith)
-refused-number BadLevels = inl (omega arith, omega arith)
-refused-number BadBuffer = inl (omega arith, omega arith)
-refused-number (BadPath p) = inr (omega arith, omega arith)
-refused-number TooLarge = inr (omega arith, omega arith)
-refused-number TooDeep = inr (omega arith, omega arith)
-refused-number (Missed why k p) = let m = miss-number why in inr (omega arith, omega arith)
-refused-number (Broken why k p) = let m = cause-number why in inr (omega arith, omega arith)
+refused-number : (why : Refusal) → (1 ≤ refusalNumber why) × ((refusalNumber why ≤ 4) ⊎ ((20 ≤ refusalNumber why) × (refusalNumber why ≤ 29)))
+refused-number EmptyRecord = (omega arith, inl (omega arith))
+refused-number LongRecord = (omega arith, inl (omega arith))
+refused-number BadLevels = (omega arith, inl (omega arith))
+refused-number BadBuffer = (omega arith, inl (omega arith))
+refused-number (BadPath p) = (omega arith, inr (omega arith, omega arith))
+refused-number TooLarge = (omega arith, inr (omega arith, omega arith))
+refused-number TooDeep = (omega arith, inr (omega arith, omega arith))
+refused-number (Missed why k p) = let m = miss-number why in (omega arith, inr (omega arith, omega arith))
+refused-number (Broken why k p) = let m = cause-number why in (omega arith, inr (omega arith, omega arith))
 
 -- the contract allows one outcome
 pub query-one : {text words path : List ℕ} {levels n m p q s z k j : ℕ} → QueryTells text words levels path n p s k → QueryTells text words levels path m q z j
@@ -40,7 +40,7 @@ module _ (text words : List ℕ) (levels : ℕ) (path : List ℕ) {number place 
     where
       go : (a : Answer) → (numberOf a ≤ 4) ⊎ ((20 ≤ numberOf a) × (numberOf a ≤ 29))
       go (Found s e) = inl (omega arith)
-      go (Refused why) = ⊎-elim (λ l. inl (l .1)) inr (refused-number why)
+      go (Refused why) = refused-number why .1
 
   -- 0: so many bytes from the place on lie in the record, and are the part
   pub part-told : number ≡ 0 → (0 < size) × (place + size ≤ length text) × (take size (drop place text) ≡ partOf text (answerOf text words levels path))
@@ -51,7 +51,7 @@ module _ (text words : List ℕ) (levels : ℕ) (path : List ℕ) {number place 
       go (Found s e) i n p l =
           let long : size ≡ e - s = l ∙ length-take-le (e - s) (drop s text) (omega (arith, i, length-drop s text)) in
           (omega (arith, i, long), omega (arith, i, long, p), rw (long, p))
-      go (Refused why) i n p l = ⊎-elim (λ m. absurd (omega (arith, n, z, m))) (λ m. absurd (omega (arith, n, z, m))) (refused-number why)
+      go (Refused why) i n p l = absurd (omega (arith, n, z, refused-number why .0))
 
   -- any other number: there is none
   pub no-part-told : (number ≡ 0 → ⊥) → size ≡ 0

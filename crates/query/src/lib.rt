@@ -40,7 +40,8 @@ pub fn answer(text: &[u8], words: &[u64], levels: usize, path: &[u8]) -> Answer
     }
 }
 
-// The part of the lent record itself that a path selects, the empty part at its start on refusal; and the number, place and step.
+// The part of the lent record itself that a path selects, the empty part at its start on refusal; and the number, the place and
+// the step.
 pub fn query<'a>(
     text: &'a [u8],
     words: &[u64],

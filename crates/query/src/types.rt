@@ -1,4 +1,4 @@
-// What a query tells, and the scope's number, step and place of each case.
+// What a query tells, and the number, step and place of each case.
 ghost use mathlib.Core.Path.{_≡_};
 ghost use Rattle.query.specs.Answers.{missNumber, causeNumber, refusalNumber, refusalPlace, refusalStep, numberOf, placeOf, stepOf};
 

@@ -37,8 +37,8 @@ abbrev found : String → ℕ → ℕ → PathRow
 found path start end = record { path = bytes path; number = 0; step = 0; place = start; end = end }
 
 -- number, step and place of a refusal
-abbrev tells : String → ℕ → ℕ → ℕ → PathRow
-tells path number step place = record { path = bytes path; number = number; step = step; place = place; end = 0 }
+abbrev refused : String → ℕ → ℕ → ℕ → PathRow
+refused path number step place = record { path = bytes path; number = number; step = step; place = place; end = 0 }
 
 pub record Report : Type 0 where
   text : List ℕ
@@ -47,9 +47,25 @@ pub record Report : Type 0 where
   words : List Value
   paths : List PathRow
 
--- a sound record, three levels, and paths
-asked : String → List PathRow → Report
-asked text paths = record { text = bytes text; levels = 3; verdict = sound; words = []; paths = paths }
+-- a record and its verdict
+judged : String → Verdict → Report
+judged text verdict = record { text = bytes text; levels = 1; verdict = verdict; words = []; paths = [] }
+
+-- a sound record of one word, with so many levels, and some values
+indexed : ℕ → String → List Value → Report
+indexed levels text words = record { text = bytes text; levels = levels; verdict = sound; words = words; paths = [] }
+
+-- or some paths
+asked : ℕ → String → List PathRow → Report
+asked levels text paths = record { text = bytes text; levels = levels; verdict = sound; words = []; paths = paths }
+
+-- the first word of a bitmap
+abbrev word0 : Bitmap → ℕ → Value
+word0 bitmap value = record { of = bitmap; at = 0; value = value }
+
+-- of 2 and 3
+abbrev sameThree : List Value
+sameThree = word0 quotes 18 ∷ word0 mask 28 ∷ word0 (commas 1) 32 ∷ []
 
 agrees : Verdict → Verdict → Bool
 agrees sound sound = true
@@ -82,94 +98,64 @@ allRight [] = true
 allRight (r ∷ rs) = right r && allRight rs
 
 pub rows : List Report
-unfolding asked
+unfolding judged indexed asked
 rows =
     -- 1
-    (record {
-      text = bytes "{\"a\":\":,\"}";
-      levels = 1;
-      verdict = sound;
-      words =
-          (record { of = quotes; at = 0; value = 298 }) ∷ (record { of = mask; at = 0; value = 460 }) ∷
-          (record { of = colons 1; at = 0; value = 16 }) ∷ (record { of = commas 1; at = 0; value = 0 }) ∷ [];
-      paths = [];
-    }) ∷
-    -- 2
-    (record {
-      text = bytes "[\"\\\\\",1]";
-      levels = 1;
-      verdict = sound;
-      words =
-          (record { of = quotes; at = 0; value = 18 }) ∷ (record { of = mask; at = 0; value = 28 }) ∷
-          (record { of = commas 1; at = 0; value = 32 }) ∷ [];
-      paths = [];
-    }) ∷
-    -- 3
-    (record {
-      text = bytes "[\"\\\"\",1]";
-      levels = 1;
-      verdict = sound;
-      words =
-          (record { of = quotes; at = 0; value = 18 }) ∷ (record { of = mask; at = 0; value = 28 }) ∷
-          (record { of = commas 1; at = 0; value = 32 }) ∷ [];
-      paths = [];
-    }) ∷
-    -- 4, and 12, whose misses tell step and place since One
-    (record {
-      text = bytes "{\"a\":[1,2],\"b\":{\"c\":3}}";
-      levels = 2;
-      verdict = sound;
-      words =
-          (record { of = colons 1; at = 0; value = 16400 }) ∷ (record { of = colons 2; at = 0; value = 524288 }) ∷
-          (record { of = commas 1; at = 0; value = 1024 }) ∷ (record { of = commas 2; at = 0; value = 128 }) ∷ [];
-      paths =
-          found "$" 0 23 ∷ found "$.b.c" 20 21 ∷ found "$.a[1]" 8 9 ∷ tells "$.c" 25 1 0 ∷ tells "$.a.x" 23 2 5 ∷ tells "$[0]" 24 1 0 ∷ tells "$.a[2]" 26 2 5 ∷
-          tells "$.a[01]" 20 0 5 ∷ tells "$." 20 0 2 ∷ [];
-    }) ∷
+    indexed 1 "{\"a\":\":,\"}" (word0 quotes 298 ∷ word0 mask 460 ∷ word0 (colons 1) 16 ∷ word0 (commas 1) 0 ∷ []) ∷
+    -- 2 and 3, "the same three numbers"
+    indexed 1 "[\"\\\\\",1]" sameThree ∷
+    indexed 1 "[\"\\\"\",1]" sameThree ∷
+    -- 4
+    indexed 2 "{\"a\":[1,2],\"b\":{\"c\":3}}" (word0 (colons 1) 16400 ∷ word0 (colons 2) 524288 ∷ word0 (commas 1) 1024 ∷ word0 (commas 2) 128 ∷ []) ∷
     -- 5: 62 spaces first
     (record {
       text = replicate 62 32 ++ bytes "\"\\\" ,\"";
       levels = 1;
       verdict = sound;
       words =
-          (record { of = quotes; at = 0; value = 2 ^ 62 }) ∷ (record { of = quotes; at = 1; value = 8 }) ∷
-          (record { of = mask; at = 0; value = 2 ^ 63 }) ∷ (record { of = mask; at = 1; value = 15 }) ∷ [];
+          word0 quotes (2 ^ 62) ∷ (record { of = quotes; at = 1; value = 8 }) ∷
+          word0 mask (2 ^ 63) ∷ (record { of = mask; at = 1; value = 15 }) ∷ [];
       paths = [];
     }) ∷
     -- 6 to 10
-    (record { text = bytes "]"; levels = 1; verdict = faulty 13 0; words = []; paths = [] }) ∷
-    (record { text = bytes "["; levels = 1; verdict = faulty 16 1; words = []; paths = [] }) ∷
-    (record { text = bytes "[\""; levels = 1; verdict = faulty 15 2; words = []; paths = [] }) ∷
-    (record { text = bytes "[]][\""; levels = 1; verdict = faulty 13 2; words = []; paths = [] }) ∷
-    (record { text = bytes "{]"; levels = 1; verdict = sound; words = []; paths = [] }) ∷
+    judged "]" (faulty 13 0) ∷
+    judged "[" (faulty 16 1) ∷
+    judged "[\"" (faulty 15 2) ∷
+    judged "[]][\"" (faulty 13 2) ∷
+    judged "{]" sound ∷
+    -- 12, whose misses tell step and place since One
+    asked 2 "{\"a\":[1,2],\"b\":{\"c\":3}}"
+    (found "$" 0 23 ∷ found "$.b.c" 20 21 ∷ found "$.a[1]" 8 9 ∷ refused "$.c" 25 1 0 ∷ refused "$.a.x" 23 2 5 ∷ refused "$[0]" 24 1 0 ∷
+    refused "$.a[2]" 26 2 5 ∷ refused "$.a[01]" 20 0 5 ∷ refused "$." 20 0 2 ∷ []) ∷
+    asked 1 "{\"a\":[1,2],\"b\":{\"c\":3}}" (refused "$.a[1]" 22 0 0 ∷ []) ∷
     -- 13, "`$[1]` becomes 29"
-    asked "[1,]" (tells "$[1]" 29 1 3 ∷ tells "$[2]" 26 1 0 ∷ []) ∷
-    asked " {} " (found "$" 1 3 ∷ tells "$.a" 25 1 1 ∷ []) ∷
-    asked "{\"a\":1,\"a\":2}" (found "$.a" 5 6 ∷ []) ∷
+    asked 3 "[1,]" (refused "$[1]" 29 1 3 ∷ refused "$[2]" 26 1 0 ∷ []) ∷
+    asked 3 " {} " (found "$" 1 3 ∷ refused "$.a" 25 1 1 ∷ []) ∷
+    asked 3 "{\"a\":1,\"a\":2}" (found "$.a" 5 6 ∷ []) ∷
     -- One: "no colon, a name that is no quoted string, an empty value", "checked in that order within an item"
-    asked "{x}" (tells "$.a" 27 1 1 ∷ []) ∷
-    asked "{x:}" (tells "$.a" 28 1 1 ∷ []) ∷
-    asked "{:1}" (tells "$.a" 28 1 1 ∷ []) ∷
-    asked "{\"a\" \"b\":1}" (tells "$.a" 28 1 1 ∷ []) ∷
+    asked 3 "{x}" (refused "$.a" 27 1 1 ∷ []) ∷
+    asked 3 "{x:}" (refused "$.a" 28 1 1 ∷ []) ∷
+    asked 3 "{:1}" (refused "$.a" 28 1 1 ∷ []) ∷
+    asked 3 "{\"a\" \"b\":1}" (refused "$.a" 28 1 1 ∷ []) ∷
     -- "29 only for the item that is taken"; a blank item of an object has no colon
-    asked "{\"b\":,\"a\":1}" (found "$.a" 10 11 ∷ tells "$.b" 29 1 1 ∷ tells "$.c" 25 1 0 ∷ []) ∷
-    asked "{ ,\"a\":1}" (tells "$.a" 27 1 1 ∷ []) ∷
+    asked 3 "{\"b\":,\"a\":1}" (found "$.a" 10 11 ∷ refused "$.b" 29 1 1 ∷ refused "$.c" 25 1 0 ∷ []) ∷
+    asked 3 "{ ,\"a\":1}" (refused "$.a" 27 1 1 ∷ []) ∷
     -- items behind the one that is found are not reached
-    asked "{\"a\":1,x}" (found "$.a" 5 6 ∷ tells "$.b" 27 1 7 ∷ []) ∷
+    asked 3 "{\"a\":1,x}" (found "$.a" 5 6 ∷ refused "$.b" 27 1 7 ∷ []) ∷
     -- "the byte after the bracket or comma before it": blanks are not skipped
-    asked "{ \"a\":1 , x }" (tells "$.b" 27 1 9 ∷ []) ∷
-    asked "[ 1 ,  ]" (tells "$[1]" 29 1 5 ∷ []) ∷
+    asked 3 "{ \"a\":1 , x }" (refused "$.b" 27 1 9 ∷ []) ∷
+    asked 3 "[ 1 ,  ]" (refused "$[1]" 29 1 5 ∷ []) ∷
     -- "an empty array item too"; a number step checks the item it takes, and no other
-    asked "[,]" (tells "$[0]" 29 1 1 ∷ tells "$[1]" 29 1 2 ∷ tells "$[2]" 26 1 0 ∷ []) ∷
-    asked "[,2]" (found "$[1]" 2 3 ∷ []) ∷
-    asked "[:]" (found "$[0]" 1 2 ∷ []) ∷
+    asked 3 "[,]" (refused "$[0]" 29 1 1 ∷ refused "$[1]" 29 1 2 ∷ refused "$[2]" 26 1 0 ∷ []) ∷
+    asked 3 "[,2]" (found "$[1]" 2 3 ∷ []) ∷
+    asked 3 "[:]" (found "$[0]" 1 2 ∷ []) ∷
     -- "the first byte of the value the step works in"
-    asked " [ 1 ]" (tells "$.a" 23 1 1 ∷ tells "$[0].a" 23 2 3 ∷ tells "$[1]" 26 1 1 ∷ []) ∷
+    asked 3 " [ 1 ]" (refused "$.a" 23 1 1 ∷ refused "$[0].a" 23 2 3 ∷ refused "$[1]" 26 1 1 ∷ []) ∷
     -- steps 2 and 3
-    asked "{\"a\":[{\"b\":}]}" (tells "$.a[0].b" 29 3 7 ∷ tells "$.a[0].c" 25 3 6 ∷ tells "$.a[0][0]" 24 3 6 ∷ tells "$.a[1]" 26 2 5 ∷ tells "$.a.b" 23 2 5 ∷ []) ∷
-    asked "{\"a\":{\"b\":[1, ]}}" (tells "$.a.b[1]" 29 3 13 ∷ tells "$.a.b.c" 23 3 10 ∷ []) ∷
+    asked 3 "{\"a\":[{\"b\":}]}" (refused "$.a[0].b" 29 3 7 ∷ refused "$.a[0].c" 25 3 6 ∷ refused "$.a[0][0]" 24 3 6 ∷ refused "$.a[1]" 26 2 5 ∷ refused "$.a.b" 23 2 5 ∷ []) ∷
+    asked 3 "{\"a\":{\"b\":[1, ]}}" (refused "$.a.b[1]" 29 3 13 ∷ refused "$.a.b.c" 23 3 10 ∷ []) ∷
     -- "for an all-blank record step 0, place 0"; 20 to 22 go first
-    asked " \n" (tells "$" 29 0 0 ∷ tells "$.a" 29 0 0 ∷ tells "$a" 20 0 1 ∷ tells "$[16777216]" 21 0 0 ∷ tells "$.a.a.a.a" 22 0 0 ∷ []) ∷
+    asked 3 " \n" (refused "$" 29 0 0 ∷ refused "$.a" 29 0 0 ∷ refused "$a" 20 0 1 ∷ refused "$[16777216]" 21 0 0 ∷ refused "$.a.a.a.a" 22 0 0 ∷ []) ∷
     []
 
 pub reports : T (allRight rows)

@@ -34,7 +34,7 @@ recordOf input = drop (pathEnd input + 1) input
 abbrev pub placed : ℕ → ℕ → Printed
 placed number place = record { number = number; start = place; end = place }
 
--- of 23 to 29 too: "The program goes on printing 0 0"
+-- a miss and a broken item tell a place in the record, and for them "The program goes on printing 0 0"
 abbrev pub refusalPrinted : Refusal → Printed
 refusalPrinted why = placed (query.refusalNumber why) (pick (ltb (query.refusalNumber why) 23) (query.refusalPlace why) 0)
 

@@ -1,6 +1,6 @@
 // What is printed: of each call ` number@place`, of an asking ` number@chunks+steps`, of a query
-// ` number@place/step+length:digest` with a digest of the part's bytes; at a case's end the digest of the words as every call of it
-// left them.
+// ` number@place/step+length:digest` with a digest of the part's bytes; at a case's end the digest of the words as every call
+// of it left them.
 use crate::input::wide;
 
 fn mix(digest: u64, word: u64) -> u64 {
@@ -28,26 +28,27 @@ fn digest_of_bytes(bytes: &[u8]) -> u64 {
     d
 }
 
+fn tell_more(mark: &[u8], value: usize) {
+    io::write_all(1, mark);
+    io::print_decimal(1, value as u64);
+}
+
 pub fn tell(number: u64, place: usize) {
     io::write_all(1, b" ");
     io::print_decimal(1, number);
-    io::write_all(1, b"@");
-    io::print_decimal(1, place as u64);
+    tell_more(b"@", place);
 }
 
 pub fn tell_two(number: u64, first: usize, second: usize) {
     tell(number, first);
-    io::write_all(1, b"+");
-    io::print_decimal(1, second as u64);
+    tell_more(b"+", second);
 }
 
 // The low half of the digest is told.
 pub fn tell_part(number: u64, place: usize, step: usize, part: &[u8]) {
     tell(number, place);
-    io::write_all(1, b"/");
-    io::print_decimal(1, step as u64);
-    io::write_all(1, b"+");
-    io::print_decimal(1, part.len() as u64);
+    tell_more(b"/", step);
+    tell_more(b"+", part.len());
     io::write_all(1, b":");
     io::print_hex(1, digest_of_bytes(part) % 4294967296, 8);
 }

@@ -124,8 +124,11 @@ module _ (text words : List ℕ) (levels : ℕ) (path : List ℕ) where
       (pick (eqb n 26) (Misses text words levels path NoNumber)
       (pick (eqb n 27) (Breaks text words levels path NoColon) (pick (eqb n 28) (Breaks text words levels path BadName) (Breaks text words levels path EmptyValue))))))))))))))
 
+  walks : {ss : List Selector} {r : Answer} → Walkable text words levels path ss → WalkGives text (lent words levels (widthOf (length text))) ss r → Walks text words levels path r
+  walks {ss} w g = record { selectors = ss; walkable = w; gives = g }
+
   walked-number : {ss : List Selector} → Walkable text words levels path ss → (r : Answer) → WalkGives text (lent words levels (widthOf (length text))) ss r → Condition (numberOf r)
-  walked-number {ss} w (Found s e) g = (s, e, record { selectors = ss; walkable = w; gives = g })
+  walked-number {ss} w (Found s e) g = (s, e, walks w g)
   walked-number {ss} w (Refused why) g = halted why g (walk-number text (lent words levels (widthOf (length text))) ss g)
     where
       halted : (why : Refusal) → WalkGives text (lent words levels (widthOf (length text))) ss (Refused why) → 23 ≤ refusalNumber why → Condition (refusalNumber why)
@@ -136,13 +139,13 @@ module _ (text words : List ℕ) (levels : ℕ) (path : List ℕ) where
       halted (BadPath p) g l = absurd (omega arith)
       halted TooLarge g l = absurd (omega arith)
       halted TooDeep g l = absurd (omega arith)
-      halted (Missed NotObject k p) g l = (k, p, record { selectors = ss; walkable = w; gives = g })
-      halted (Missed NotArray k p) g l = (k, p, record { selectors = ss; walkable = w; gives = g })
-      halted (Missed NoName k p) g l = (k, p, record { selectors = ss; walkable = w; gives = g })
-      halted (Missed NoNumber k p) g l = (k, p, record { selectors = ss; walkable = w; gives = g })
-      halted (Broken NoColon k p) g l = (k, p, record { selectors = ss; walkable = w; gives = g })
-      halted (Broken BadName k p) g l = (k, p, record { selectors = ss; walkable = w; gives = g })
-      halted (Broken EmptyValue k p) g l = (k, p, record { selectors = ss; walkable = w; gives = g })
+      halted (Missed NotObject k p) g l = (k, p, walks w g)
+      halted (Missed NotArray k p) g l = (k, p, walks w g)
+      halted (Missed NoName k p) g l = (k, p, walks w g)
+      halted (Missed NoNumber k p) g l = (k, p, walks w g)
+      halted (Broken NoColon k p) g l = (k, p, walks w g)
+      halted (Broken BadName k p) g l = (k, p, walks w g)
+      halted (Broken EmptyValue k p) g l = (k, p, walks w g)
 
   numbered : {r : Answer} → Given text words levels path r → Condition (numberOf r)
   numbered (empty e) = e

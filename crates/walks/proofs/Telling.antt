@@ -1,7 +1,7 @@
 -- What 23 to 29 tell beside their number: the step that stops, and where its value begins or its broken item does. By the steps, one after another: the
 -- steps before the one that stops have found its value.
 use Prim.Native.Nat.{ℕ, suc, _+_, _-_, _≤_, _<_}
-use mathlib.Core.Path.{_≡_, refl, subst}
+use mathlib.Core.Path.{_≡_, refl, sym, subst}
 use mathlib.Core.Logic.{inl, inr}
 use mathlib.Core.List.{List, _∷_}
 use native.Mathlib.Omega.{arith}
@@ -13,7 +13,7 @@ use Rattle.query.specs.Items.{Bits, lent}
 use Rattle.query.specs.Answers.{refusalNumber, refusalPlace, refusalStep, numberOf, placeOf, stepOf, answerOf}
 use Rattle.walks.specs.Members.{Bracketed, Borders, Member, no-colon, bad-name}
 use Rattle.walks.specs.Members as Members
-use Rattle.walks.specs.Conditions.{StepGives, not-object, no-member, no-name, broken-member, not-array, no-element, no-number, broken-element, StepsGive, done, here, later, WalkGives, blank, within, Given, empty, long, levels-out, other-buffer, long-path, no-path, large-number, deep, walked, Tells, miss, broken, all-blank, Stopped}
+use Rattle.walks.specs.Conditions.{StepGives, not-object, no-member, no-name, broken-member, not-array, no-element, no-number, broken-element, StepsGive, done, here, later, WalkGives, blank, within, Given, empty, long, levels-out, other-buffer, long-path, no-path, large-number, deep, walked, Tells, miss, broken, all-blank, WalkTells}
 use Rattle.query.specs.declared.items.Item.the-variants as Items
 use Rattle.query.specs.declared.types.Miss.{Miss}
 use Rattle.query.specs.declared.types.Cause.{Cause}
@@ -50,8 +50,8 @@ module _ (byte : ℕ → ℕ) (bits : Bits) where
   here-tells (not-object g) = misses
   here-tells (no-member w o) = misses
   here-tells (no-name w u h) = misses
-  here-tells {k} {a} {e} {s} {ss} (broken-member {p = p} {why = why} w u h) =
-      subst (λ (x : ℕ). TellsFrom k (s ∷ ss) a e (Broken why k x)) (omega (arith, begins (h .here))) (breaks (inl w) (h .cut))
+  here-tells {k} {a} {e} {s} {ss} (broken-member {why = why} w u h) =
+      subst (λ (x : ℕ). TellsFrom k (s ∷ ss) a e (Broken why k x)) (sym (begins (h .here))) (breaks (inl w) (h .cut))
   here-tells (not-array g) = misses
   here-tells (no-element w o) = misses
   here-tells (no-number w u c) = misses
@@ -66,6 +66,10 @@ module _ (byte : ℕ → ℕ) (bits : Bits) where
   from-tells (here g) = here-tells g
   from-tells (later q l) = one-later q (from-tells l)
 
+-- the value that steps find lies in the record
+value-inside : {text : List ℕ} {bits : Bits} {ss : List Selector} {a e : ℕ} → WalkGives text bits ss (Found a e) → InRecord (length text) (Found a e)
+value-inside {text} {bits} {ss} {a} {e} g = subst (InRecord (length text)) (walk-gives text bits ss (Found a e) .1 g) (walk-in text bits ss)
+
 module _ (text : List ℕ) (bits : Bits) (ss : List Selector) where
   -- of a walk
   pub walk-tells : {why : Refusal} → WalkGives text bits ss (Refused why) → Tells text bits ss (refusalNumber why) (refusalStep why) (refusalPlace why)
@@ -78,14 +82,12 @@ module _ (text : List ℕ) (bits : Bits) (ss : List Selector) where
 
   -- the place is one of the record
   inside : {n k p : ℕ} → 0 < length text → Tells text bits ss n k p → p < length text
-  inside h (miss why {k = k} {a = a} {e = e} l g) = let i = subst (InRecord (length text)) (walk-gives text bits (take k ss) (Found a e) .1 g) (walk-in text bits (take k ss)) in omega (arith, i)
-  inside h (broken why {k = k} {a = a} {e = e} l g w c) =
-      let i = subst (InRecord (length text)) (walk-gives text bits (take k ss) (Found a e) .1 g) (walk-in text bits (take k ss)) in
-      omega (arith, i, c .order, cut-to c)
+  inside h (miss why l g) = omega (arith, value-inside g)
+  inside h (broken why l g w c) = omega (arith, value-inside g, c .order, cut-to c)
   inside h (all-blank o) = h
 
 module _ (text words : List ℕ) (levels : ℕ) (path : List ℕ) where
-  stopped : {r : Answer} → Given text words levels path r → 23 ≤ numberOf r → Stopped text words levels path (numberOf r) (stepOf r) (placeOf r)
+  stopped : {r : Answer} → Given text words levels path r → 23 ≤ numberOf r → WalkTells text words levels path (numberOf r) (stepOf r) (placeOf r)
   stopped (empty e) h = absurd (omega arith)
   stopped (long l) h = absurd (omega arith)
   stopped (levels-out s l) h = absurd (omega arith)
@@ -96,12 +98,12 @@ module _ (text words : List ℕ) (levels : ℕ) (path : List ℕ) where
   stopped (deep b w l d) h = absurd (omega arith)
   stopped (walked {r} {ss} w g) h = go r g h
     where
-      go : (r : Answer) → WalkGives text (lent words levels (widthOf (length text))) ss r → 23 ≤ numberOf r → Stopped text words levels path (numberOf r) (stepOf r) (placeOf r)
+      go : (r : Answer) → WalkGives text (lent words levels (widthOf (length text))) ss r → 23 ≤ numberOf r → WalkTells text words levels path (numberOf r) (stepOf r) (placeOf r)
       go (Found s e) g h = absurd (omega arith)
       go (Refused why) g h = record { selectors = ss; walkable = w; tells = walk-tells text (lent words levels (widthOf (length text))) ss g }
 
   -- of a query
-  pub tells : 23 ≤ numberOf (answerOf text words levels path) → Stopped text words levels path (numberOf (answerOf text words levels path)) (stepOf (answerOf text words levels path)) (placeOf (answerOf text words levels path))
+  pub tells : 23 ≤ numberOf (answerOf text words levels path) → WalkTells text words levels path (numberOf (answerOf text words levels path)) (stepOf (answerOf text words levels path)) (placeOf (answerOf text words levels path))
   tells h = stopped (answer-given text words levels path) h
 
   -- "a place in the record"

@@ -132,8 +132,8 @@ pub data Tells (text : List ℕ) (bits : Bits) (ss : List Selector) : (number st
   -- "for an all-blank record step 0, place 0"
   all-blank : OnlyBlanks (byteIn text) 0 (length text) → Tells text bits ss 29 0 0
 
--- a query that gives one of them has walked along its path, and tells this
-pub record Stopped (text words : List ℕ) (levels : ℕ) (path : List ℕ) (number step place : ℕ) : Type 0 where
+-- a walk along the path tells this
+pub record WalkTells (text words : List ℕ) (levels : ℕ) (path : List ℕ) (number step place : ℕ) : Type 0 where
   pub selectors : List Selector
   pub walkable : Walkable text words levels path selectors
   pub tells : Tells text (lent words levels (widthOf (length text))) selectors number step place
