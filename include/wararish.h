@@ -33,7 +33,9 @@
  *   27 28   a broken item: it has no colon; its name is no quoted string
  *   29      a broken item: it is taken, and its value is empty; or the record is blank all through
  *           (place and step: 0)
- * 23 to 29 tell the step of the path, from 1, and a place in the record: for 23 to 26 the first
+ *   30      a broken item: its name has an escape that RFC 8259 has not, or an unpaired surrogate;
+ *           checked before 29
+ * 23 to 30 tell the step of the path, from 1, and a place in the record: for 23 to 26 the first
  * byte of the value that the step works in, for a broken item the byte behind the bracket or comma
  * before it. Where a number tells no place, place is 0, and where it tells no step, step is 0.
  */
@@ -81,10 +83,11 @@ uint64_t wararish_run(const uint8_t *record, size_t record_length,
                       const uint8_t *calls, size_t calls_length,
                       size_t *place);
 
-/* Asks a record for a path: $, then steps .name or [number]. The words are those that were made of
- * this record with these levels, and they are only read; by others it answers as their bits say.
- * Gives 0, with where the part begins and how many bytes it has: it is a part of the record itself.
- * Else gives 1 to 4 or 20 to 29, and size is 0; step is 0 but for 23 to 29. */
+/* Asks a record for a path: $, then steps .name or [number]. Names are compared by their
+ * characters, with their escapes read; of equal ones the first counts. The words are those that
+ * were made of this record with these levels, and they are only read; by others it answers as
+ * their bits say. Gives 0, with where the part begins and how many bytes it has: it is a part of
+ * the record itself. Else gives 1 to 4 or 20 to 30, and size is 0; step is 0 but for 23 to 30. */
 uint64_t wararish_query(const uint8_t *record, size_t record_length,
                         const uint64_t *words, size_t words_length,
                         size_t levels,

@@ -28,7 +28,9 @@ const SETTINGS: [[Setting; 2]; LEVELS] = [
 ];
 
 /// A value, and steps for which each bit is turned over that they go by.
-const TURNED: [(&str, &[&str]); 6] = [
+pub type Turned = (&'static str, &'static [&'static str]);
+
+const TURNED: [Turned; 6] = [
     (r#"{"b":1,"a":2}"#, &[".a", ".b"]),
     (r#"{ "b":,"a" : 3 }"#, &[".a", ".b"]),
     (r#"{"a"}"#, &[".a"]),
@@ -90,13 +92,13 @@ fn turned_over(k: usize, (before, path, behind): Setting, value: &str, steps: &[
     case
 }
 
-fn over_damaged_words() -> Vec<Case> {
-    let of_step = |k: usize| TURNED.iter().enumerate().map(move |(i, &(value, steps))| turned_over(k, SETTINGS[k - 1][i % 2], value, steps));
+pub fn over_damaged_words(values: &[Turned]) -> Vec<Case> {
+    let of_step = |k: usize| values.iter().enumerate().map(move |(i, &(value, steps))| turned_over(k, SETTINGS[k - 1][i % 2], value, steps));
     (1..=LEVELS).flat_map(of_step).collect()
 }
 
 pub fn all() -> impl Iterator<Item = Case> {
-    [over_a_run(), over_word_borders(), over_damaged_words()].into_iter().flatten()
+    [over_a_run(), over_word_borders(), over_damaged_words(&TURNED)].into_iter().flatten()
 }
 
 #[cfg(test)]
@@ -111,7 +113,7 @@ mod tests {
 
     #[test]
     fn every_miss_and_every_broken_item_at_every_step() {
-        let (plain, damaged) = (over_a_run(), over_damaged_words());
+        let (plain, damaged) = (over_a_run(), over_damaged_words(&TURNED));
         for step in 1..=LEVELS {
             for number in 23..=29 {
                 assert!(times(&plain, number, step) >= 4, "{number} at step {step}, over the words of a run");

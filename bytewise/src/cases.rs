@@ -1,5 +1,5 @@
 //! Which cases there are: the reports of the documents, a list for each thing that has gone wrong before, lists of misses and
-//! broken items, random ones, and runs that stray.
+//! broken items, random ones, runs that stray, and names spelt anew.
 
 use crate::broken;
 use crate::case::{size, Case, SHORT_RECORD, SHORT_WORDS};
@@ -8,6 +8,7 @@ use crate::random::Random;
 use crate::records::{self, brackets, damaged, deep, json, noise, path, wrapped, Text};
 use crate::reports;
 use crate::rules::width;
+use crate::spelt;
 use crate::strays;
 
 const STEPS: [Step; 3] = [Step::Scan, Step::Settle, Step::Level];
@@ -383,7 +384,8 @@ fn repeated(text: &[u8], times: usize) -> Vec<u8> {
     record
 }
 
-/// The cases of every list, and so many random ones; behind them those of runs that stray, which draw from numbers of their own.
+/// The cases of every list, and so many random ones; behind them those of runs that stray and those of names spelt anew, which
+/// draw from numbers of their own.
 pub fn all(seed: u64, count: usize, with_beyond: bool) -> impl Iterator<Item = Case> {
     let mut random = Random::new(seed);
     let mut listed = reports::cases();
@@ -396,7 +398,9 @@ pub fn all(seed: u64, count: usize, with_beyond: bool) -> impl Iterator<Item = C
     listed.extend(sizes(&mut random));
     listed.extend(reports::cases_of_request_one());
     listed.extend(broken::all());
-    listed.into_iter().chain((0..count).map(move |_| random_case(&mut random))).chain(strays::all(seed, count / 8))
+    let randomly = (0..count).map(move |_| random_case(&mut random));
+    let of_names = reports::cases_of_request_two().into_iter().chain(spelt::all(seed, count / 8));
+    listed.into_iter().chain(randomly).chain(strays::all(seed, count / 8)).chain(of_names)
 }
 
 #[cfg(test)]
@@ -408,12 +412,13 @@ mod tests {
     #[test]
     fn the_showing_program_has_a_line_of_every_number_it_prints() {
         let lines: Vec<String> = inputs(3, 200).iter().map(|input| line(input)).collect();
-        for number in [0, 1, 2, 13, 14, 15, 16, 20, 21, 22, 23, 24, 25, 26, 27, 28, 29] {
+        for number in [0, 1, 2, 13, 14, 15, 16, 20, 21, 22, 23, 24, 25, 26, 27, 28, 29, 30] {
             let first = format!("{number} ");
             assert!(lines.iter().any(|line| line.starts_with(&first)), "no line has the number {number}");
         }
     }
 
+    /// But 30, for which spelt.rs has random cases of its own.
     #[test]
     fn random_cases_meet_every_miss_and_every_broken_item_at_every_step() {
         let mut random = Random::new(9);

@@ -1,5 +1,6 @@
-//! Section 'Paths' as request One amends it: reading a path, the walk by the bits that are lent, and what a refusal tells.
+//! Section 'Paths' as requests One and Two amend it: reading a path, the walk by the bits that are lent, and what a refusal tells.
 
+use crate::names;
 use crate::rules::{get_bit, width, Bitmap};
 
 pub enum Step {
@@ -8,13 +9,13 @@ pub enum Step {
 }
 
 /// What a query tells. A refusal has the empty part, and the place it tells is both start and end: of 20 in the path, of 23 to
-/// 29 in the record, else 0.
+/// 30 in the record, else 0.
 #[derive(Clone, Copy, Debug, PartialEq, Eq)]
 pub struct Found {
     pub number: u64,
     pub start: usize,
     pub end: usize,
-    /// Of 23 to 29 the path step, from 1; of an all-blank record and all else 0.
+    /// Of 23 to 30 the path step, from 1; of an all-blank record and all else 0.
     pub step: usize,
 }
 
@@ -130,7 +131,7 @@ fn value(record: &[u8], span: Span) -> Result<Span, u64> {
     }
 }
 
-/// The value of an item that has the name. What breaks the item, in this order: 27, 28, and if the item is taken 29.
+/// The value of an item that has the name. What breaks the item, in this order: 27, 28, 30, and if the item is taken 29.
 fn named(record: &[u8], words: &[u64], k: usize, name: &[u8], (x, y): Span) -> Result<Option<Span>, u64> {
     let n = record.len();
     let quote = |i: usize| get_bit(words, n, Bitmap::Quotes, i);
@@ -139,7 +140,7 @@ fn named(record: &[u8], words: &[u64], k: usize, name: &[u8], (x, y): Span) -> R
     if e - a < 2 || !quote(a) || !quote(e - 1) || (a + 1..e - 1).any(quote) {
         return Err(28);
     }
-    if &record[a + 1..e - 1] != name {
+    if !names::is(&names::read(&record[a + 1..e - 1])?, name) {
         return Ok(None);
     }
     value(record, (colon + 1, y)).map(Some)
@@ -218,11 +219,11 @@ pub fn query(record: &[u8], words: &[u64], levels: usize, path: &[u8]) -> Found 
     }
 }
 
-/// The line that the showing program prints. For 23 to 29 it goes on printing 0 0.
+/// The line that the showing program prints. For 23 to 30 it goes on printing 0 0.
 pub fn line(input: &[u8]) -> String {
     let Found { number, start, end, .. } = shown(input);
     match number {
-        23..=29 => format!("{number} 0 0\n"),
+        23..=30 => format!("{number} 0 0\n"),
         _ => format!("{number} {start} {end}\n"),
     }
 }

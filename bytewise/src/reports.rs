@@ -1,6 +1,7 @@
 //! Section 'Reports to try' of the scope, and what else it shows by example, in its literal numbers and as request One amends
-//! them; and that request's sentences, worked out by hand on small records. Whatever is read here is from the documents and never
-//! from a program's answer. A case of a report asserts it, so that a misreading is noticed also where both programs share it.
+//! them; and the sentences of requests One and Two, worked out by hand on small records. Whatever is read here is from the
+//! documents and never from a program's answer. A case of a report asserts it, so that a misreading is noticed also where both
+//! programs share it.
 
 use std::fmt::Debug;
 
@@ -115,6 +116,104 @@ const ROWS_PLACES: &[Row] = &[
     ("One, a blank record after 20 to 22", 1, b" ", &[("$.", told(20, 0, 2)), ("$[16777216]", refused(21)), ("$.a.b", refused(22))]),
 ];
 
+/// Request Two: names compare by their characters.
+const ROWS_SPELT: &[Row] = &[
+    ("Two, a name spelt by an escape", 3, br#"{"\u006eame":1}"#, &[("$.name", part(13, 14)), ("$.ame", told(25, 1, 0)), ("$.u006eame", told(25, 1, 0))]),
+    ("Two, digits in either case", 3, br#"{"\u006A":1,"\u006a":2}"#, &[("$.j", part(10, 11)), ("$.J", told(25, 1, 0))]),
+    ("Two, every digit that is a letter", 3, br#"{"\uabcd\uefAB\uCDEF":1,"a":2}"#, &[("$.a", part(28, 29))]),
+    ("Two, all of a name by escapes", 3, br#"{"\u005f\u0052\u0039":1}"#, &[("$._R9", part(22, 23)), ("$._r9", told(25, 1, 0))]),
+    ("Two, zero is a character", 3, br#"{"\u0000":1,"a\u0000":2,"a":3}"#, &[("$.a", part(28, 29))]),
+    ("Two, the short escapes", 3, br#"{"\"\\\/\b\f\n\r\t":1,"a":2}"#, &[("$.a", part(26, 27)), ("$.bfnrt", told(25, 1, 0))]),
+    ("Two, no escape is its letter, b f", 3, br#"{"\b":0,"\f":1,"b":2,"f":3}"#, &[("$.b", part(19, 20)), ("$.f", part(25, 26))]),
+    ("Two, no escape is its letter, n r", 3, br#"{"\n":0,"\r":1,"n":2,"r":3}"#, &[("$.n", part(19, 20)), ("$.r", part(25, 26))]),
+    ("Two, no escape is its letter, t u", 3, br#"{"\t":0,"\u0000":1,"t":2}"#, &[("$.t", part(23, 24)), ("$.u0000", told(25, 1, 0))]),
+    ("Two, an escaped backslash", 3, br#"{"\\u0061":1,"a":2}"#, &[("$.a", part(17, 18)), ("$.u0061", told(25, 1, 0))]),
+    ("Two, what an escape gives begins none", 3, br#"{"\u005cq":1,"\u0022":2,"a":3}"#, &[("$.a", part(28, 29))]),
+    ("Two, a surrogate pair", 3, br#"{"\uD83D\ude00":1,"a":2}"#, &[("$.a", part(22, 23))]),
+    ("Two, the first and the last pair", 3, br#"{"\ud800\udc00\uDBFF\uDFFF":1,"a":2}"#, &[("$.a", part(34, 35))]),
+    ("Two, beside the surrogates", 3, br#"{"\uD7FF\uE000":1,"a":2}"#, &[("$.a", part(22, 23))]),
+    ("Two, a character is all its digits", 3, br#"{"\u0161":1,"\uD800\uDC61":2,"\u6100":3,"a":4}"#, &[("$.a", part(44, 45))]),
+    ("Two, the first of two by characters", 3, br#"{"\u0061":1,"a":2}"#, &[("$.a", part(10, 11))]),
+    ("Two, the first of two, raw", 3, br#"{"a":1,"\u0061":2}"#, &[("$.a", part(5, 6))]),
+    ("Two, no case folding", 3, br#"{"\u0061":1,"A":2}"#, &[("$.A", part(16, 17)), ("$.a", part(10, 11))]),
+    ("Two, no normalisation", 3, br#"{"e\u0301":1,"\uFF45":2,"e":3}"#, &[("$.e", part(28, 29))]),
+    ("Two, a name that goes on", 3, br#"{"a\u0062":1,"a":2}"#, &[("$.a", part(17, 18)), ("$.ab", part(11, 12)), ("$.abc", told(25, 1, 0))]),
+    ("Two, a raw surrogate", 3, b"{\"\xED\xA0\x80\":1,\"a\":2}", &[("$.a", part(13, 14))]),
+    ("Two, raw control bytes", 3, b"{\"a\n\":1,\"\x01a\":2,\"a\":3}", &[("$.a", part(19, 20)), ("$.an", told(25, 1, 0))]),
+    ("Two, a raw zero", 3, b"{\"a\0\":1,\"a\":2}", &[("$.a", part(12, 13))]),
+    ("Two, bytes that are no UTF-8", 3, b"{\"\xFFa\xC3\":1,\"a\":2}", &[("$.a", part(13, 14))]),
+    ("Two, an overlong letter", 3, b"{\"\xC1\xA1\":1,\"a\":2}", &[("$.a", part(12, 13))]),
+    ("Two, no UTF-8 before an escape", 3, b"{\"\xC3\\u0061\":1,\"a\":2}", &[("$.a", part(17, 18))]),
+    ("Two, blanks about a spelt name", 3, br#"{ "\u0061" : 7 }"#, &[("$.a", part(13, 14))]),
+    ("Two, an empty value of a spelt name", 3, br#"{"\u0062":,"\u0061":}"#, &[("$.a", told(29, 1, 11)), ("$.b", told(29, 1, 1)), ("$.c", told(25, 1, 0))]),
+    ("Two, spelt at steps 1 and 3", 3, br#"{"\u006d":[{"\u0061":1}]}"#, &[("$.m[0].a", part(21, 22)), ("$.m[0].b", told(25, 3, 11))]),
+];
+
+/// Request Two: which items are looked at for 30, in which order, and what it tells.
+const ROWS_UNREAD: &[Row] = &[
+    ("Two, the name is read whole", 3, br#"{"x\q":1,"a":2}"#, &[("$.a", told(30, 1, 1)), ("$.x", told(30, 1, 1)), ("$.b", told(30, 1, 1))]),
+    ("Two, 30 for the item that would be found", 3, br#"{"\u0061\q":1,"a":2}"#, &[("$.a", told(30, 1, 1))]),
+    ("Two, 30 behind an item", 3, br#"{"b":1, "\q":2,"a":3}"#, &[("$.b", part(5, 6)), ("$.a", told(30, 1, 7))]),
+    ("Two, 30 behind the item taken", 3, br#"{"a":1,"\q":2}"#, &[("$.a", part(5, 6)), ("$.b", told(30, 1, 7))]),
+    ("Two, the first of two", 3, br#"{"\ud800":1,"\q":2}"#, &[("$.a", told(30, 1, 1))]),
+    ("Two, 27 before 30", 3, br#"{"\q","a":1}"#, &[("$.a", told(27, 1, 1))]),
+    ("Two, 28 before 30", 3, br#"{"\q"x:1,"a":2}"#, &[("$.a", told(28, 1, 1))]),
+    ("Two, 28 before 30, two strings", 3, br#"{"\q""a":1}"#, &[("$.a", told(28, 1, 1))]),
+    ("Two, 30 before 29", 3, br#"{"\q":,"a":1}"#, &[("$.a", told(30, 1, 1)), ("$.q", told(30, 1, 1))]),
+    ("Two, the first broken item, 30", 3, br#"{"\q":1,"a",x:2}"#, &[("$.a", told(30, 1, 1))]),
+    ("Two, the first broken item, 27", 3, br#"{"a","\q":1}"#, &[("$.b", told(27, 1, 1))]),
+    ("Two, the first broken item, 28", 3, br#"{x:1,"\q":1}"#, &[("$.a", told(28, 1, 1))]),
+    ("Two, blanks before a bad escape", 3, br#" {  "\q" :1}"#, &[("$.a", told(30, 1, 2))]),
+    ("Two, a number looks at no name", 3, br#"["\q":1,{"\q":1}]"#, &[("$[0]", part(1, 7)), ("$[1]", part(8, 16)), ("$[1].a", told(30, 2, 9)), ("$[2]", told(26, 1, 0))]),
+    ("Two, a value is no name", 3, br#"{"b":"\q","a":"\ud800"}"#, &[("$.a", part(14, 22)), ("$.a.b", told(23, 2, 14))]),
+    ("Two, a deeper name", 3, br#"{"m":{"\q":1},"a":2}"#, &[("$.a", part(18, 19)), ("$.m", part(5, 13)), ("$.m.a", told(30, 2, 6))]),
+    ("Two, step 2", 3, br#"{"m":{"k":0,"\q":1}}"#, &[("$.m.a", told(30, 2, 12)), ("$.m.k", part(10, 11)), ("$.a", told(25, 1, 0))]),
+    ("Two, step 3", 3, br#"[[{ "\ud800":1}]]"#, &[("$[0][0].a", told(30, 3, 3)), ("$[0][0][0]", told(24, 3, 2))]),
+];
+
+/// Request Two: names that are 30, each in the first item of a record.
+const PATHS_UNREAD: Paths = &[("$.a", told(30, 1, 1))];
+const UNREAD: &[(&str, &[u8])] = &[
+    ("Two, no escape of one letter", br"\q"),
+    ("Two, \\a", br"\a"),
+    ("Two, \\v", br"\v"),
+    ("Two, \\0", br"\0"),
+    ("Two, \\'", br"\'"),
+    ("Two, \\x61", br"\x61"),
+    ("Two, \\N", br"\N"),
+    ("Two, \\U", br"\U0061"),
+    ("Two, a backslash before a blank", br"\ "),
+    ("Two, no digits", br"\u"),
+    ("Two, three digits", br"\u006"),
+    ("Two, three digits before an escape", br"\u006\u0061"),
+    ("Two, a last digit that is none", br"\u006g"),
+    ("Two, a digit that is none", br"\u00g1"),
+    ("Two, a first digit that is none", br"\ug061"),
+    ("Two, a sign", br"\u+061"),
+    ("Two, braces", br"\u{61}"),
+    ("Two, a bad escape behind good ones", br"\u0061\n\q"),
+    ("Two, a high surrogate alone", br"\ud83d"),
+    ("Two, the first high surrogate", br"\uD800"),
+    ("Two, the last high surrogate", br"\uDBFF"),
+    ("Two, a low surrogate alone", br"\ude00"),
+    ("Two, the first low surrogate", br"\uDC00"),
+    ("Two, the last low surrogate", br"\uDFFF"),
+    ("Two, a high one before a letter", br"\ud83dx"),
+    ("Two, a high one before a raw low one", b"\\ud83d\xED\xB8\x80"),
+    ("Two, a low one behind a raw high one", b"\xED\xA0\xBD\\ude00"),
+    ("Two, a high one before a short escape", br"\ud83d\n"),
+    ("Two, a high one before another character", br"\ud83d\u0061"),
+    ("Two, a high one before the next to the low ones", br"\ud83d\ue000"),
+    ("Two, a high one before a bad escape", br"\ud83d\q"),
+    ("Two, a high one before three digits", br"\ud83d\ude0"),
+    ("Two, two high ones", br"\ud83d\ud83d"),
+    ("Two, two low ones", br"\ude00\ude00"),
+    ("Two, two high ones and a low one", br"\ud83d\ud83d\ude00"),
+    ("Two, a pair and a low one", br"\ud83d\ude00\ude00"),
+    ("Two, a low one before a high one", br"\ude00\ud83d"),
+    ("Two, a letter between a high and a low one", br"\ud83dx\ude00"),
+];
+
 /// Reports 1 to 4, and the paths of record 4 with L = 2.
 fn words() -> Vec<Report> {
     vec![
@@ -146,6 +245,12 @@ fn verdicts() -> Vec<Report> {
 /// Report 11.
 fn deepest() -> Vec<Report> {
     vec![report("11, 64 and 64", &brackets(64)), Report { fault: Some((14, 64)), ..report("11, 65 and 65", &brackets(65)) }]
+}
+
+/// Each name in `{"NAME":1,"a":2}`.
+fn unread() -> Vec<Report> {
+    let record = |spelt: &[u8]| [b"{\"", spelt, b"\":1,\"a\":2}"].concat();
+    UNREAD.iter().map(|&(name, spelt)| Report { paths: PATHS_UNREAD, ..report(name, &record(spelt)) }).collect()
 }
 
 impl Report {
@@ -183,7 +288,7 @@ impl Report {
 /// The lines that the section of the showing program has, and that of 20 and of each number which goes on printing 0 0.
 fn check_lines() {
     let long = [&b"$\n"[..], &[b' '; 16_385]].concat();
-    let lines: [(&[u8], &str); 12] = [
+    let lines: [(&[u8], &str); 14] = [
         (b"$.b[1]\n{\"a\":1,\"b\":[2,30]}", "0 14 16\n"),
         (&[b'$'; 1025], "21 0 0\n"),
         (&long, "2 0 0\n"),
@@ -196,6 +301,8 @@ fn check_lines() {
         (b"$.a\n {x:}", "28 0 0\n"),
         (b"$[1]\n [1,]", "29 0 0\n"),
         (b"$\n ", "29 0 0\n"),
+        (b"$.a\n {\"\\q\":1}", "30 0 0\n"),
+        (b"$.name\n{\"\\u006eame\":1}", "0 13 14\n"),
     ];
     for (input, said) in lines {
         assert!(line(input) == said, "the showing program prints {:?}, and the documents say {said:?}", line(input));
@@ -220,9 +327,14 @@ fn of_request_one() -> impl Iterator<Item = Report> {
     of_rows(ROWS_BROKEN).into_iter().chain(of_rows(ROWS_PLACES))
 }
 
+/// What request Two tells.
+fn of_request_two() -> impl Iterator<Item = Report> {
+    of_rows(ROWS_SPELT).into_iter().chain(of_rows(ROWS_UNREAD)).chain(unread())
+}
+
 /// Every report.
 pub fn all() -> impl Iterator<Item = Report> {
-    but_deepest().chain(deepest()).chain(of_request_one())
+    but_deepest().chain(deepest()).chain(of_request_one()).chain(of_request_two())
 }
 
 /// The scope's as cases; those of 11 stand in that list.
@@ -233,6 +345,11 @@ pub fn cases() -> Vec<Case> {
 /// Request One's as cases.
 pub fn cases_of_request_one() -> Vec<Case> {
     of_request_one().flat_map(|report| report.cases()).collect()
+}
+
+/// Request Two's as cases.
+pub fn cases_of_request_two() -> Vec<Case> {
+    of_request_two().flat_map(|report| report.cases()).collect()
 }
 
 /// Every path with its record, as the showing program reads them.

@@ -34,6 +34,19 @@ const INDEX_ROWS: &[(&str, Way)] = &[
     ("bytewise, byte by byte", Way::Bytewise),
 ];
 
+/// The rows of queries by name, each with the names of its object and how they are spelt. 'times' is told by the first.
+const NAME_ROWS: &[(&str, fn() -> Vec<String>, Spelling)] = &[
+    ("20,000 members", many_names, Spelling::Plain),
+    ("20,000 members, escapes", many_names, Spelling::Escapes),
+    ("12 members", few_names, Spelling::Plain),
+];
+
+/// With a number behind it, up to 19,999, each is a name of 4 to 24 bytes.
+const STEMS: [&str; 7] =
+    ["subtitle_safe_area_", "cue", "peak_", "tile_rate_", "colour_space_", "timecode", "audio_channel_gain_"];
+
+const FEW_NAMES: &str = "reel title encoder frames colour_space frame_rate width height peak held cleared_by note";
+
 const SMALL_RECORD: &[u8; 64] = br#"{"reel":"R-0417","frames":[{"rate":2137},{"rate":890}],"held":0}"#;
 
 fn main() {
@@ -44,6 +57,7 @@ fn main() {
     let compact = &columns[0];
     let one_chunk = index_table(&columns);
     query_table(compact, one_chunk);
+    name_table();
     job_table();
     program_table(compact);
 }
@@ -69,6 +83,22 @@ enum Words {
     Cleared,
     /// Allocated in the turn, as bytewise allocates its own.
     New,
+}
+
+#[derive(Clone, Copy)]
+enum Spelling {
+    Plain,
+    /// One name in ten, the last among them, has its first letter written as `\u00XX`.
+    Escapes,
+}
+
+impl Spelling {
+    fn of(self, k: usize, name: &str) -> String {
+        match self {
+            Spelling::Escapes if k % 10 == 9 => format!("\\u{:04x}{}", name.as_bytes()[0], &name[1..]),
+            _ => name.to_owned(),
+        }
+    }
 }
 
 /// A made report, and the words that bytewise has for it.
@@ -221,6 +251,65 @@ fn query_table(column: &Column, one_chunk: Duration) {
         print_row(path, &[format!("{:.2}", 1000.0 * ms(took)), format!("{:.6}", ratio(took, one_chunk))]);
     }
     println!("share: this time by that of the index of one chunk.");
+}
+
+fn many_names() -> Vec<String> {
+    (0..20_000).map(|k| format!("{}{k}", STEMS[k % STEMS.len()])).collect()
+}
+
+fn few_names() -> Vec<String> {
+    FEW_NAMES.split(' ').map(str::to_owned).collect()
+}
+
+/// A record of one object, the path to its last member, and the value there.
+struct Object {
+    record: Vec<u8>,
+    members: usize,
+    path: String,
+    value: String,
+}
+
+impl Object {
+    /// The value of each member is its number, from 0.
+    fn new(names: &[String], spelling: Spelling) -> Object {
+        let member = |(k, name): (usize, &String)| format!("\"{}\":{k}", spelling.of(k, name));
+        let members: Vec<String> = names.iter().enumerate().map(member).collect();
+        let last = names.len() - 1;
+        Object {
+            record: format!("{{{}}}", members.join(",")).into_bytes(),
+            members: names.len(),
+            path: format!("$.{}", names[last]),
+            value: last.to_string(),
+        }
+    }
+
+    /// What a member takes, in nanoseconds.
+    fn each(&self, took: Duration) -> f64 {
+        1e6 * ms(took) / self.members as f64
+    }
+}
+
+fn name_contestant(object: &Object) -> Contestant<'_> {
+    let index = Report::new(&object.record).index(LEVELS, &[]).expect("the record is sound");
+    let ask = move || index.ask(black_box(object.path.as_bytes())).expect("the object has this name");
+    assert_eq!(ask(), object.value.as_bytes(), "{}", object.path);
+    Contestant::short(move || {
+        black_box(ask());
+    })
+}
+
+fn name_table() {
+    let objects: Vec<Object> = NAME_ROWS.iter().map(|&(_, names, spelling)| Object::new(&names(), spelling)).collect();
+    let smallest = race(objects.iter().map(name_contestant).collect());
+    let first = objects[0].each(smallest[0]);
+    println!();
+    print_head("query for an object's last name", &["us", "ns each", "times"]);
+    for (((name, ..), object), took) in NAME_ROWS.iter().zip(&objects).zip(smallest) {
+        let each = object.each(took);
+        print_row(name, &[format!("{:.2}", 1000.0 * ms(took)), format!("{each:.1}"), format!("{:.2}", each / first)]);
+    }
+    println!("ns each: the time of the query by the number of members; times: this by that of the first row.");
+    println!("Names have 4 to 24 bytes; escapes: one name in ten, the last too, has a letter written as \\u00XX.");
 }
 
 fn job_table() {

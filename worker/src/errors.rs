@@ -63,6 +63,8 @@ pub enum BrokenKind {
     BadName,
     /// 29: the item is taken, and its value is empty; or the record is blank all through.
     EmptyValue,
+    /// 30: its name has an escape that RFC 8259 has not, or an unpaired surrogate. Checked before 29.
+    BadEscape,
 }
 
 /// Where the walk along a path ends.
@@ -87,7 +89,7 @@ pub enum AskError {
     TooManySteps,
     /// 23 to 26: the record has no such part.
     Miss(MissKind, Where),
-    /// 27 to 29: the walk meets a broken item.
+    /// 27 to 30: the walk meets a broken item.
     Broken(BrokenKind, Where),
 }
 
@@ -119,6 +121,7 @@ impl BrokenKind {
             BrokenKind::NoColon => 27,
             BrokenKind::BadName => 28,
             BrokenKind::EmptyValue => 29,
+            BrokenKind::BadEscape => 30,
         }
     }
 }
@@ -185,7 +188,8 @@ impl AskError {
             27 => AskError::Broken(BrokenKind::NoColon, at),
             28 => AskError::Broken(BrokenKind::BadName, at),
             29 => AskError::Broken(BrokenKind::EmptyValue, at),
-            _ => unreachable!("a query over an index tells 0 or 20 to 29, not {number}"),
+            30 => AskError::Broken(BrokenKind::BadEscape, at),
+            _ => unreachable!("a query over an index tells 0 or 20 to 30, not {number}"),
         })
     }
 
@@ -199,7 +203,7 @@ impl AskError {
         }
     }
 
-    /// For 20 the place in the path, for 23 to 29 the place in the record; else 0.
+    /// For 20 the place in the path, for 23 to 30 the place in the record; else 0.
     pub fn place(self) -> usize {
         match self {
             AskError::NoPath(place) => place,
@@ -208,7 +212,7 @@ impl AskError {
         }
     }
 
-    /// For 23 to 29 the step of the path, from 1; else 0, and where the record is blank all through.
+    /// For 23 to 30 the step of the path, from 1; else 0, and where the record is blank all through.
     pub fn step(self) -> usize {
         match self {
             AskError::Miss(_, at) | AskError::Broken(_, at) => at.step,
@@ -221,7 +225,7 @@ impl AskError {
         matches!(self, AskError::Miss(..))
     }
 
-    /// The walk met an item that is broken, or the record is blank all through (27 to 29).
+    /// The walk met an item that is broken, or the record is blank all through (27 to 30).
     pub fn is_broken_item(self) -> bool {
         matches!(self, AskError::Broken(..))
     }
@@ -260,6 +264,7 @@ impl fmt::Display for BrokenKind {
             BrokenKind::NoColon => "a broken item without a colon",
             BrokenKind::BadName => "a broken item whose name is no quoted string",
             BrokenKind::EmptyValue => "a broken item whose value is empty",
+            BrokenKind::BadEscape => "a broken item whose name has a bad escape or an unpaired surrogate",
         })
     }
 }
@@ -309,7 +314,7 @@ mod tests {
             assert_eq!(error.place(), if number == 6 || number > 12 { 9 } else { 0 });
             assert_eq!(error.is_fault(), number > 12);
         }
-        for number in 20..=29 {
+        for number in 20..=30 {
             let error = AskError::told(number, 9, 3).unwrap_err();
             let walked = number > 22;
             assert_eq!(error.number(), number);
@@ -332,6 +337,7 @@ mod tests {
             "a broken item without a colon",
             "a broken item whose name is no quoted string",
             "a broken item whose value is empty",
+            "a broken item whose name has a bad escape or an unpaired surrogate",
         ];
         for (number, why) in (23..).zip(whys) {
             assert_eq!(sentence(number), format!("step 3: {why}, at byte 9"));

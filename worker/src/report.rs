@@ -97,7 +97,8 @@ fn fitted(mut lent: Vec<u64>, needed: usize) -> Vec<u64> {
 }
 
 impl<'r> Index<'r> {
-    /// The part of the record that the path leads to.
+    /// The part of the record that the path leads to. Names are compared by their characters, with their escapes read;
+    /// of equal ones the first counts.
     pub fn ask(&self, path: &[u8]) -> Result<&'r [u8], AskError> {
         Ok(&self.record[self.find(path)?])
     }

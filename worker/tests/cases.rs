@@ -4,7 +4,7 @@ use bytewise::cases::{good_cuts, text};
 use bytewise::job::{self, Answer, Step};
 use bytewise::random::Random;
 use bytewise::records::{self, Text};
-use bytewise::{path, rules};
+use bytewise::{path, rules, spelt};
 use wararish::plan::{self, Guesses, Order};
 use wararish::{words_needed, Call, Index, Report};
 
@@ -37,6 +37,7 @@ fn run(record: &[u8], words: &mut [u64], levels: usize, cuts: &[usize], calls: &
 fn any_text(random: &mut Random) -> Text {
     match random.below(60) {
         0 => Text { bytes: Vec::new(), paths: vec![b"$".to_vec()] },
+        1..=6 => spelt::text(random),
         _ => text(random),
     }
 }
@@ -137,7 +138,7 @@ fn random_cases() {
     for _ in 0..CASES {
         check_case(&mut random, &mut seen);
     }
-    for number in [0, 1, 3, 5, 6, 12, 13, 14, 15, 16, 20, 21, 22, 23, 24, 25, 26, 27, 28, 29] {
+    for number in [0, 1, 3, 5, 6, 12, 13, 14, 15, 16, 20, 21, 22, 23, 24, 25, 26, 27, 28, 29, 30] {
         assert!(seen[number] >= 15, "{number} was given {} times: {seen:?}", seen[number]);
     }
 }

@@ -152,6 +152,76 @@ fn a_broken_item_tells_the_step_and_where_it_begins() {
     assert_eq!(run(&["ask", "$.a", "-"], br#"{"b":,"a":1}"#), ended(0, "1\n", ""), "only the item that is taken");
 }
 
+const BAD_ESCAPE: &str = "a broken item whose name has a bad escape or an unpaired surrogate";
+
+#[test]
+fn a_bad_escape_in_a_name_is_told_where_its_item_begins() {
+    let bad_escape = [
+        ("$.a", r#"{"x\q":1,"a":2}"#, "1, .a", 1),
+        ("$.a", r#"{"a\q":}"#, "1, .a", 1),
+        ("$.b.a", r#"{"b":{"c":1, "\ud83d":2}}"#, "2, .a", 12),
+        ("$[0][0].a[1]", r#"[[{"\u00g1":[]}]]"#, "3, .a", 3),
+    ];
+    check_unfound(30, 2, BAD_ESCAPE, &bad_escape);
+    let record = "{\"reel\":\"R2\",\n \"frames\":[{\"ra\\te\":24},\n  { \"r\\ate\":25}]}\n";
+    let sentence = format!("step 3, .rate: {BAD_ESCAPE}, at byte 42, line 3, column 4 (30)");
+    let said = format!("wararish: $.frames[1].rate: {sentence}\n    {{ \"r\\ate\":25}}]}}\n     ^\n");
+    assert_eq!(run(&["ask", "$.frames[1].rate", "-"], record.as_bytes()), ended(2, "\n", &said));
+}
+
+/// What `--where` prints of a path, and the status.
+fn told_where(path: &str, record: &[u8]) -> (i32, String) {
+    let (status, out, _) = run(&["ask", "--where", path, "-"], record);
+    (status, out)
+}
+
+#[test]
+fn escapes_that_are_none_and_surrogates_without_their_pair() {
+    let escapes = [r"\q", r"\'", r"\U0061", r"\u", r"\u006", r"\u006x", r"\u 061", r"a\x61", r"\\\q"];
+    let surrogates = [r"\ud800", r"\uDFFF", r"\udc00\ud800", r"\uD83C\u0041", r"\ud83c\n", r"\ud83cx\udfac"];
+    for name in escapes.iter().chain(&surrogates) {
+        let record = format!("{{\"{name}\":1,\"a\":2}}");
+        assert_eq!(told_where("$.a", record.as_bytes()), (2, "30 1 1 1\n".into()), "{record}");
+    }
+    let before = [(r#"{"\q" 1}"#, "27 1 1 1\n"), (r#"{"\q"x:1}"#, "28 1 1 1\n"), (r#"{"a":,"\q":1}"#, "29 1 1 1\n")];
+    for (record, line) in before {
+        assert_eq!(told_where("$.a", record.as_bytes()), (2, line.into()), "{record}");
+    }
+}
+
+#[test]
+fn a_bad_escape_where_no_name_is_compared_does_no_harm() {
+    let found = [
+        ("$.a", r#"{"a":1,"\q":2}"#, "1\n"),
+        ("$.a", r#"{"b":"\q","a":"\ud800"}"#, "\"\\ud800\"\n"),
+        ("$[0]", r#"[{"\q":1}]"#, "{\"\\q\":1}\n"),
+        ("$", r#"{"\q":1}"#, "{\"\\q\":1}\n"),
+    ];
+    for (path, record, out) in found {
+        assert_eq!(run(&["ask", path, "-"], record.as_bytes()), ended(0, out, ""), "{record}");
+    }
+}
+
+#[test]
+fn names_are_compared_by_their_characters() {
+    assert_eq!(run(&["ask", "$.name", "-"], br#"{"\u006eame":7}"#), ended(0, "7\n", ""));
+    let told: [(&str, &[u8], &str); 9] = [
+        ("$.name", br#"{"\u006eame":7}"#, "0 13 14 0\n"),
+        ("$._J9", br#"{"\u005F\u004a\u0039":7}"#, "0 22 23 0\n"),
+        ("$.a", br#"{"\u0061":1,"a":2}"#, "0 10 11 0\n"),
+        ("$.a", br#"{"a":1,"\u0061":2}"#, "0 5 6 0\n"),
+        ("$.a.b", br#"{"\ud83c\udfac":0,"\u0061":{"\u0062":3}}"#, "0 37 38 0\n"),
+        ("$.a", br#"{"\"\\\/\b\f\n\r\t\u0000":1,"a":2}"#, "0 32 33 0\n"),
+        ("$.a", b"{\"\xed\xa0\x80\":1,\"\xff\t\":2,\"a\":3}", "0 20 21 0\n"),
+        ("$.a", br#"{"\\u0061":1,"\u0041":2,"a\u0000":3}"#, "25 0 0 1\n"),
+        ("$.n", br#"{"\n":1,"\u000an":2}"#, "25 0 0 1\n"),
+    ];
+    for (path, record, line) in told {
+        let status = i32::from(line.starts_with("25"));
+        assert_eq!(told_where(path, record), (status, line.into()), "{}", String::from_utf8_lossy(record));
+    }
+}
+
 #[test]
 fn a_step_is_shown_in_its_line() {
     let record = "{\n \"frames\": [\n  {\"rate\": 24, \"tiles\": []},\n  {\"rate\": }\n ],\n}\n";
@@ -289,10 +359,11 @@ fn ask_json_tells_the_step() {
         object("$[1].x", 23, 3, 2, "step 2: the value is not an object, at byte 3"),
         object("$[0][2]", 24, 1, 2, "step 2: the value is not an array, at byte 1"),
         object("$[2].a.b", 29, 6, 2, "step 2: a broken item whose value is empty, at byte 6"),
+        object("$[3].a", 30, 13, 2, &format!("step 2: {BAD_ESCAPE}, at byte 13")),
     ];
-    let words = ["ask", "--json", "$[4]", "$[1].x", "$[0][2]", "$[2].a.b", "-"];
-    let (status, told, said) = run(&words, br#"[1,2,{"a":}]"#);
-    assert_eq!((status, told, said.matches("wararish: ").count()), (2, out.concat(), 4));
+    let words = ["ask", "--json", "$[4]", "$[1].x", "$[0][2]", "$[2].a.b", "$[3].a", "-"];
+    let (status, told, said) = run(&words, br#"[1,2,{"a":},{"\q":1}]"#);
+    assert_eq!((status, told, said.matches("wararish: ").count()), (2, out.concat(), 5));
 }
 
 #[test]

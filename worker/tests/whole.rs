@@ -55,6 +55,20 @@ fn the_words_of_bytewise_and_parts_of_the_record_itself() {
 }
 
 #[test]
+fn a_name_of_escapes_is_read_whole() {
+    let (start, end) = (&b"{\""[..], &b"\":1,\"a\":2}"[..]);
+    let escapes = (LIMIT - start.len() - end.len()) / 6;
+    let mut record = [start, &b"\\u0061".repeat(escapes), end].concat();
+    let index = Report::new(&record).index(LEVELS, &[]).unwrap();
+    assert_eq!(index.find(b"$.a").unwrap(), record.len() - 2..record.len() - 1);
+    // the last digit of the last escape
+    let digit = record.len() - end.len() - 1;
+    record[digit] = b'g';
+    let broken = Report::new(&record).index(LEVELS, &[]).unwrap().ask(b"$.a").unwrap_err();
+    assert_eq!((broken.number(), broken.step(), broken.place()), (30, 1, 1));
+}
+
+#[test]
 fn a_fault_in_the_last_byte_leaves_every_word_zero() {
     let mut record = sample::report(Style::Compact, LIMIT);
     record[LIMIT - 1] = b' ';

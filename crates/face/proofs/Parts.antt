@@ -17,7 +17,7 @@ use Rattle.walks.proofs.Giving.{miss-number, cause-number}
 use Rattle.walks.proofs.Telling.{told-inside}
 use Rattle.face.specs.Outcomes.{QueryTells}
 
-refused-number : (why : Refusal) → (1 ≤ refusalNumber why) × ((refusalNumber why ≤ 4) ⊎ ((20 ≤ refusalNumber why) × (refusalNumber why ≤ 29)))
+refused-number : (why : Refusal) → (1 ≤ refusalNumber why) × ((refusalNumber why ≤ 4) ⊎ ((20 ≤ refusalNumber why) × (refusalNumber why ≤ 30)))
 refused-number EmptyRecord = (omega arith, inl (omega arith))
 refused-number LongRecord = (omega arith, inl (omega arith))
 refused-number BadLevels = (omega arith, inl (omega arith))
@@ -34,11 +34,11 @@ pub query-one : {text words path : List ℕ} {levels n m p q s z k j : ℕ} → 
 query-one t u = (t .number-is ∙ sym (u .number-is), t .place-is ∙ sym (u .place-is), t .size-is ∙ sym (u .size-is), t .step-is ∙ sym (u .step-is))
 
 module _ (text words : List ℕ) (levels : ℕ) (path : List ℕ) {number place size step : ℕ} (tells : QueryTells text words levels path number place size step) where
-  -- wararish_query tells 0 to 4 or 20 to 29
-  pub query-numbers : (number ≤ 4) ⊎ ((20 ≤ number) × (number ≤ 29))
-  query-numbers = subst (λ (n : ℕ). (n ≤ 4) ⊎ ((20 ≤ n) × (n ≤ 29))) (sym (tells .number-is)) (go (answerOf text words levels path))
+  -- wararish_query tells 0 to 4 or 20 to 30
+  pub query-numbers : (number ≤ 4) ⊎ ((20 ≤ number) × (number ≤ 30))
+  query-numbers = subst (λ (n : ℕ). (n ≤ 4) ⊎ ((20 ≤ n) × (n ≤ 30))) (sym (tells .number-is)) (go (answerOf text words levels path))
     where
-      go : (a : Answer) → (numberOf a ≤ 4) ⊎ ((20 ≤ numberOf a) × (numberOf a ≤ 29))
+      go : (a : Answer) → (numberOf a ≤ 4) ⊎ ((20 ≤ numberOf a) × (numberOf a ≤ 30))
       go (Found s e) = inl (omega arith)
       go (Refused why) = refused-number why .1
 
@@ -61,6 +61,6 @@ module _ (text words : List ℕ) (levels : ℕ) (path : List ℕ) {number place 
       go (Found s e) n l = absurd (z n)
       go (Refused why) n l = l
 
-  -- 23 to 29: the record has a byte at the place
+  -- 23 to 30: the record has a byte at the place
   pub place-told : 23 ≤ number → place < length text
   place-told h = let i = told-inside text words levels path (omega (arith, tells .number-is)) in omega (arith, i, tells .place-is)

@@ -22,6 +22,7 @@ use Rattle.json.proofs.Machine.{sep, sortOf, out}
 use Rattle.json.proofs.Derive.{pad-run}
 use Rattle.json.proofs.Trace.{At, commas, Stepped, at-step, level-here, Seg, Traced, trace}
 use Rattle.json.proofs.Stretches.{seg-left, seg-right}
+use Rattle.json.proofs.Names.{nodes}
 use Rattle.json.proofs.Values.{Taken, none, one, pad-hit}
 
 -- ---- inside a bracket: the machine goes on at a separator, whose bit of that level is set
@@ -88,7 +89,7 @@ module _ (text : List ℕ) (k : ℕ) where
       rw q (first-all commasOf a (a + length (padBytes p)) (omega arith) (pad-trace a p g h d .levels comma commas (suc k) (le-refl (suc k))))
 
   pub number-taken : (i a : ℕ) (es : Elems) (e : ℕ) → e ≡ a + length (elemsBytes es) → Seg text a (elemsBytes es) → At text a (out (suc k))
-      → deepItems (padItems a es) + suc k ≤ 64 → Taken text (suc k) (nth i (padItems a es)) (itemNo (byteIn text) commasOf i a e)
+      → deepItems (padItems a es) + suc k ≤ 64 → Taken text (suc k) (nodes (nth i (padItems a es))) (itemNo (byteIn text) commasOf i a e)
   unfolding nth deep
   number-taken zero a (Elems.last p) e q g h d =
       one _ refl (rw (no-first a e (a + length (padBytes p)) (pad-last a p e q g h (omega arith))) (pad-hit text (suc k) a a p g h (omega arith)))

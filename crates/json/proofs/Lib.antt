@@ -4,6 +4,7 @@ pub mod Derive
 pub mod Trace
 pub mod Stretches
 pub mod Verdicts
+pub mod Characters
 pub mod Names
 pub mod Parts
 pub mod Values

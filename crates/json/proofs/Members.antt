@@ -1,7 +1,7 @@
--- The entries of an object: the items are the first whose name has the bytes asked for, and none is broken. By the entries, cut at the commas
--- between them and at the colon of each.
+-- The entries of an object: the items are the first whose name is the one asked for, and none is broken but for an unpaired surrogate. By the entries,
+-- cut at the commas between them and at the colon of each.
 use mathlib.Core.Path.{_≡_, refl, ap, _∙_}
-use mathlib.Core.Bool.{Bool, true, false}
+use mathlib.Core.Bool.{true, false}
 use mathlib.Core.List.{List, [], _∷_, _++_}
 use Prim.Native.Nat.{ℕ, zero, suc, _+_, _-_, _≤_, _<_}
 use native.Mathlib.Nat.{add-suc, suc-add, add-assoc, not-suc-le-zero, le-refl}
@@ -9,15 +9,19 @@ use native.Mathlib.Numerals.{add-one}
 use native.Mathlib.Omega.{arith}
 use borrow.Author.Tests.{eq-eqb, lt-ltb, le-ltb}
 use lib.ListN.{length, length-append}
-use Rattle.rules.specs.Word.{pick}
 use Rattle.rules.specs.Bytes.{is, colon, comma}
 use Rattle.rules.specs.Bits.{quoteBit, levelBit}
 use Rattle.paths.specs.Places.{byteIn, between, firstAt}
 use Rattle.rules.specs.Layout.{bitOf}
-use Rattle.query.specs.Items.{valueAt, same, quoted, keyed, itemAt, orElse, firstItemIn}
+use Rattle.names.specs.Spelling.{matched, onMatch}
+use Rattle.names.specs.declared.Match.{Match}
+use Rattle.names.specs.declared.Match.the-variants.{Same, Different}
+use Rattle.names.specs.declared.Match.the-variants as Matches
+use Rattle.query.specs.Items.{valueAt, quoted, keyed, itemAt, orElse, firstItemIn}
 use Rattle.walks.specs.Ruled.{ruled}
 use Rattle.query.specs.declared.items.Item.{Item}
-use Rattle.query.specs.declared.items.Item.the-variants.{Other}
+use Rattle.query.specs.declared.items.Item.the-variants.{Other, Broken}
+use Rattle.query.specs.declared.types.Cause.the-variants.{BadEscape}
 use Rattle.paths.proofs.PlaceLaws.{first-at, first-all}
 use Rattle.texts.specs.Grammar.{Ws, Chars, stringBytes}
 use Rattle.texts.specs.Nodes.{Json, Fields, noFields, deep, deepFields}
@@ -27,8 +31,8 @@ use Rattle.json.proofs.Derive.{name-run, chars-run, plains-run, ws-plai
 use Rattle.json.proofs.Trace.{At, colons, commas, Stepped, at-step, quote-here, level-here, Seg, Never, never-more, never-append, trace}
 use Rattle.json.proofs.Stretches.{seg-left, seg-right}
 use Rattle.json.proofs.Parts.{Trimmed, trim, listed-seg}
-use Rattle.json.proofs.Names.{keepFirst, rawNamed}
-use Rattle.json.proofs.Values.{snoc-length, bracket-ends, Hit, Taken, none, one, pad-hit}
+use Rattle.json.proofs.Names.{Picked, nodes, bad, firstNamed}
+use Rattle.json.proofs.Values.{snoc-length, bracket-ends, Hit, Taken, none, one, unpaired, pad-hit}
 use Rattle.json.proofs.Elements.{separator-next, separator-set, comma-set, pad-trace, commasOf}
 
 module _ (text : List ℕ) (k : ℕ) where
@@ -96,33 +100,34 @@ module _ (text : List ℕ) (k : ℕ) where
             rw (c, add-one i) (listed-seg text (suc i) raw (seg-left text (suc i) raw (0x22 ∷ []) (q .1)));
       }
 
-  keyed-item : (n : List ℕ) (a d e : ℕ) (raw : List ℕ) → Named a d raw
-      → keyed (byteIn text) (quoteBit text) n a d e ≡ pick (same raw n) (valueAt (byteIn text) a (suc d) e) Other
+  keyed-item : (test : List ℕ → Match) (a d e : ℕ) (raw : List ℕ) → Named a d raw
+      → keyed (byteIn text) (quoteBit text) test a d e ≡ onMatch (test raw) (valueAt (byteIn text) a (suc d) e) Other (Broken BadEscape a)
   unfolding keyed
-  keyed-item n a d e raw m = rw (m .trims .end, m .trims .start, m .framed, m .spells, add-one d)
+  keyed-item test a d e raw m = rw (m .trims .end, m .trims .start, m .framed, m .spells, add-one d)
 
-  entry-item : {w raw us w′ : List ℕ} (n : List ℕ) (a : ℕ) (p : Pad) (b : Ws w) (s : Chars raw us) (b′ : Ws w′)
+  entry-item : {w raw us w′ : List ℕ} (test : List ℕ → Match) (a : ℕ) (p : Pad) (b : Ws w) (s : Chars raw us) (b′ : Ws w′)
       → Seg text a (entryBytes (Entry.entry b s b′ p)) → At text a (out (suc k)) → deep (padded (suc (a + length (w ++ (stringBytes raw ++ w′)))) p) + suc k ≤ 64
-      → itemAt (byteIn text) (ruled text) (suc k) n a (a + length (entryBytes (Entry.entry b s b′ p)))
-      ≡ pick (same raw n) (valueAt (byteIn text) a (suc (a + length (w ++ (stringBytes raw ++ w′)))) (a + length (entryBytes (Entry.entry b s b′ p)))) Other
+      → itemAt (byteIn text) (ruled text) (suc k) test a (a + length (entryBytes (Entry.entry b s b′ p)))
+      ≡ onMatch (test raw) (valueAt (byteIn text) a (suc (a + length (w ++ (stringBytes raw ++ w′)))) (a + length (entryBytes (Entry.entry b s b′ p)))) Other (Broken BadEscape a)
   unfolding itemAt bitOf
-  entry-item {w} {raw} {us} {w′} n a p b s b′ g h d =
+  entry-item {w} {raw} {us} {w′} test a p b s b′ g h d =
       let xs : List ℕ = w ++ (stringBytes raw ++ w′) in
       let e : ℕ = a + length (xs ++ (0x3A ∷ padBytes p)) in
       let t = entry-parted a p b s b′ g h d in
       let m = entry-named a b s b′ (seg-left text a xs (0x3A ∷ padBytes p) g) h in
-      rw (t .colon-at, lt-ltb (a + length xs) e (omega (arith, length-append xs (0x3A ∷ padBytes p)))) (keyed-item n a (a + length xs) e raw m)
+      rw (t .colon-at, lt-ltb (a + length xs) e (omega (arith, length-append xs (0x3A ∷ padBytes p)))) (keyed-item test a (a + length xs) e raw m)
 
   -- the entry that is asked for, or what the later ones come to
-  chosen : (c : Bool) (t : Json) (ts : List Json) (x later : Item) → Hit text (suc k) t x → Taken text (suc k) ts later
-      → Taken text (suc k) (keepFirst c t ts) (orElse (pick c x Other) later)
-  chosen true t ts x later h o =
+  chosen : (m : Match) (a : ℕ) (t : Json) (ts : Picked) (x later : Item) → Hit text (suc k) t x → Taken text (suc k) ts later
+      → Taken text (suc k) (onMatch m (nodes (t ∷ [])) ts bad) (orElse (onMatch m x Other (Broken BadEscape a)) later)
+  chosen Same a t ts x later h o =
       one t refl (record { place = h .place; value = h .value; is-tree = h .is-tree; is-part = rw (h .is-part) refl; good = h .good })
-  chosen false t ts x later h o = o
+  chosen Different a t ts x later h o = o
+  chosen Matches.BadEscape a t ts x later h o = unpaired a refl refl
 
   module _ (n : List ℕ) where
     abbrev entryOf : ℕ → ℕ → Item
-    entryOf = itemAt (byteIn text) (ruled text) (suc k) n
+    entryOf = itemAt (byteIn text) (ruled text) (suc k) (matched n)
 
     items-last : (c a e b : ℕ) → firstAt (commasOf text k) a e ≡ b → e ≤ b → firstItemIn entryOf (commasOf text k) (suc c) a e ≡ orElse (entryOf a b) Other
     unfolding firstItemIn
@@ -134,17 +139,17 @@ module _ (text : List ℕ) (k : ℕ) where
 
     entry-chosen : {w raw us w′ : List ℕ} (a : ℕ) (p : Pad) (b : Ws w) (s : Chars raw us) (b′ : Ws w′) (fs : Fields) (later : Item)
         → Seg text a (entryBytes (Entry.entry b s b′ p)) → At text a (out (suc k)) → deep (padded (suc (a + length (w ++ (stringBytes raw ++ w′)))) p) + suc k ≤ 64
-        → Taken text (suc k) (rawNamed n fs) later
-        → Taken text (suc k) (rawNamed n (withEntry a (Entry.entry b s b′ p) fs)) (orElse (entryOf a (a + length (entryBytes (Entry.entry b s b′ p)))) later)
+        → Taken text (suc k) (firstNamed n fs) later
+        → Taken text (suc k) (firstNamed n (withEntry a (Entry.entry b s b′ p) fs)) (orElse (entryOf a (a + length (entryBytes (Entry.entry b s b′ p)))) later)
     entry-chosen {w} {raw} {us} {w′} a p b s b′ fs later g h d o =
         let xs : List ℕ = w ++ (stringBytes raw ++ w′) in
         let t = entry-parted a p b s b′ g h d in
         let l : a + length (xs ++ (0x3A ∷ padBytes p)) ≡ suc (a + length xs) + length (padBytes p) = omega (arith, length-append xs (0x3A ∷ padBytes p)) in
         let v = pad-hit text (suc k) a (suc (a + length xs)) p (seg-right text a xs (0x3A ∷ padBytes p) g .1) (t .value-at) d in
-        rw (entry-item n a p b s b′ g h d) (chosen (same raw n) _ (rawNamed n fs) _ later (rw l v) o)
+        rw (entry-item (matched n) a p b s b′ g h d) (chosen (matched n raw) a _ (firstNamed n fs) _ later (rw l v) o)
 
     pub names-taken : (a : ℕ) (ms : Entries) (c e : ℕ) → e ≡ a + length (entriesBytes ms) → length (entriesBytes ms) < c → Seg text a (entriesBytes ms) → At text a (out (suc k))
-        → deepFields (padFields a ms) + suc k ≤ 64 → Taken text (suc k) (rawNamed n (padFields a ms)) (firstItemIn entryOf (commasOf text k) c a e)
+        → deepFields (padFields a ms) + suc k ≤ 64 → Taken text (suc k) (firstNamed n (padFields a ms)) (firstItemIn entryOf (commasOf text k) c a e)
     unfolding deep
     names-taken a (Entries.last-entry m) zero e q f g h d = absurd (not-suc-le-zero f)
     names-taken a (Entries.more-entries m ms) zero e q f g h d = absurd (not-suc-le-zero f)

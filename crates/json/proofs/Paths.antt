@@ -11,7 +11,8 @@ use lib.Dec.{eqb, ltb, leb}
 use lib.ListN.{length, take, drop, length-append, length-take, length-drop}
 use lib.Seq.{ext-getD, getD-take, getD-drop}
 use Rattle.rules.specs.Layout.{sizeOf, Promise}
-use Rattle.paths.specs.Grammar.{Selector, Letter, Rest, Name, Steps, Path}
+use Rattle.rules.proofs.Booleans.{impossible}
+use Rattle.paths.specs.Grammar.{Selector, Steps, Path}
 use Rattle.paths.specs.Places.{byteIn}
 use Rattle.query.specs.Items.{valueAt}
 use Rattle.walks.specs.Ruled.{ruled}
@@ -35,7 +36,8 @@ use Rattle.json.proofs.Stretches.{seg-at, seg-self}
 use Rattle.json.proofs.Values.{value-ends, Good, Hit, pad-hit}
 use Rattle.json.proofs.Steps.{StepTaken, step-right}
 use Rattle.walks.proofs.Agree.{walk-promised}
-use Rattle.json.proofs.Names.{Ascii, PlainName, rawChildren, children-same, AllFair, children-fair}
+use Rattle.json.proofs.Characters.{name-ascii}
+use Rattle.json.proofs.Names.{nodes, firstOnes, PlainName, children-same, AllFair, children-fair}
 use Rattle.json.proofs.Verdicts.{text-sound}
 
 -- ---- a node and its part
@@ -77,45 +79,52 @@ one-part text t a bs e f g =
     let h : Selects text (t ∷ []) (Found (firstOf t) (firstOf t + length (bytesOf t))) = Selects.one t (rw (e, f) g) in
     rw (e, f) at h
 
--- ---- along a path, by any selection that at derived values takes what the walk takes
-
-abbrev All : (Json → Type 0) → List Json → Type 0
-All P [] = Unit {0}
-All P (t ∷ ts) = P t × All P ts
+-- ---- along a path: what RFC 9535 selects, where names are unrepeated and have no unpaired surrogate
 
 abbrev Each : (Selector → Type 0) → List Selector → Type 0
 Each Q [] = Unit {0}
 Each Q (s ∷ ss) = Q s × Each Q ss
 
-abbrev along : (Selector → Json → List Json) → List Selector → List Json → List Json
-along kids [] ts = ts
-along kids (s ∷ ss) ts = along kids ss (flat (kids s) ts)
+segments-none : (ss : List Selector) → segments ss [] ≡ []
+unfolding segments flat
+segments-none [] = refl
+segments-none (s ∷ ss) = segments-none ss
 
-along-none : (kids : Selector → Json → List Json) (ss : List Selector) → along kids ss [] ≡ []
-unfolding flat
-along-none kids [] = refl
-along-none kids (s ∷ ss) = along-none kids ss
-
-module _ (text : List ℕ) (kids : Selector → Json → List Json) (P : Json → Type 0) (Q : Selector → Type 0)
-    (agree : (s : Selector) (a : ℕ) (v : Bare) → Q s → P (bareTree a v) → rawChildren s (bareTree a v) ≡ kids s (bareTree a v))
-    (keeps : (s : Selector) (t : Json) → P t → All P (kids s t)) where
-  walked : (ss : List Selector) (k a : ℕ) (v : Bare) → Each Q ss → P (bareTree a v) → Good text k a v → a + length (bareBytes v) ≤ length text
-      → Selects text (along kids ss (bareTree a v ∷ [])) (walkFrom (byteIn text) (ruled text) (suc k) ss a (a + length (bareBytes v)))
-  unfolding walkFrom flat
+module _ (text : List ℕ) where
+  walked : (ss : List Selector) (k a : ℕ) (v : Bare) → Each PlainName ss → Fair (bareTree a v) → Good text k a v → a + length (bareBytes v) ≤ length text
+      → Selects text (segments ss (bareTree a v ∷ [])) (walkFrom (byteIn text) (ruled text) (suc k) ss a (a + length (bareBytes v)))
+  unfolding walkFrom segments flat
   walked [] k a v q p g l = one-part text (bareTree a v) a (bareBytes v) (first-tree a v) (bytes-tree a v) (seg-part text a (bareBytes v) (g .seg) l)
   walked (s ∷ ss) k a v q p g l =
-      go (rw (agree s a v (q .0) p) at (step-right text k s a v g)) (keeps s (bareTree a v) p) (step-in (byteIn text) (ruled text) (length text) (suc k) s a _ l)
+      go (rw (children-same s a v (q .0) p) at (step-right text k s a v g)) (children-fair s (bareTree a v) p) (step-in (byteIn text) (ruled text) (length text) (suc k) s a _ l)
       (λ a v p g l. walked ss (suc k) a v (q .1) p g l)
     where
-      go : {x : Answer} → StepTaken text (suc k) (kids s (bareTree a v)) x → All P (kids s (bareTree a v)) → InRecord (length text) x
-          → ((a : ℕ) (v : Bare) → P (bareTree a v) → Good text (suc k) a v → a + length (bareBytes v) ≤ length text
-          → Selects text (along kids ss (bareTree a v ∷ [])) (walkFrom (byteIn text) (ruled text) (suc (suc k)) ss a (a + length (bareBytes v))))
-          → Selects text (along kids ss (flat (kids s) (bareTree a v ∷ []))) (onFound x (λ b f. walkFrom (byteIn text) (ruled text) (suc k + 1) ss b f) Refused)
-      go (StepTaken.miss why h e f) p i r = rw (e, f, along-none kids ss) (Selects.none {why = why} (omega (arith, h)))
-      go (StepTaken.hit a v e f g) p i r =
-          let pa : P (bareTree a v) × Unit {0} = rw e at p in
-          let fits : InRecord (length text) (Found a (a + length (bareBytes v))) = rw f at i in
-          rw (e, f, append-nil, add-one) (r a v (pa .0) g (fits .1))
+      go : {x : Answer} → StepTaken text (suc k) (nodes (children s (bareTree a v))) x → AllFair (children s (bareTree a v)) → InRecord (length text) x
+          → ((a : ℕ) (v : Bare) → Fair (bareTree a v) → Good text (suc k) a v → a + length (bareBytes v) ≤ length text
+          → Selects text (segments ss (bareTree a v ∷ [])) (walkFrom (byteIn text) (ruled text) (suc (suc k)) ss a (a + length (bareBytes v))))
+          → Selects text (segments ss (flat (children s) (bareTree a v ∷ []))) (onFound x (λ b f. walkFrom (byteIn text) (ruled text) (suc k + 1) ss b f) Refused)
+      go (StepTaken.miss why h e f) p i r =
+          let z : children s (bareTree a v) ≡ [] = cc in
+          rw (z, f, segments-none ss) (Selects.none {why = why} (omega (arith, h)))
+      go (StepTaken.stop place e f) p i r = impossible (cc)
+      go (StepTaken.hit b w e f g) p i r =
+          let z : children s (bareTree a v) ≡ bareTree b w ∷ [] = cc in
+          let pa : Fair (bareTree b w) × Unit {0} = rw z at p in
+          let fits : InRecord (length text) (Found b (b + length (bareBytes w))) = rw f at i in
+          rw (z, f, append-nil, add-one) (r b w (pa .0) g (fits .1))
+
+  -- whatever the names: no broken item but for an unpaired surrogate
+  walked-unbroken : (ss : List Selector) (k a : ℕ) (v : Bare) → Good text k a v → Unbroken (walkFrom (byteIn text) (ruled text) (suc k) ss a (a + length (bareBytes v)))
+  unfolding walkFrom
+  walked-unbroken [] k a v g = λ i. omega (arith, i)
+  walked-unbroken (s ∷ ss) k a v g = go (step-right text k s a v g) (λ a v g. walked-unbroken ss (suc k) a v g)
+    where
+      go : {x : Answer} → StepTaken text (suc k) (firstOnes s (bareTree a v)) x
+          → ((a : ℕ) (v : Bare) → Good text (suc k) a v → Unbroken (walkFrom (byteIn text) (ruled text) (suc (suc k)) ss a (a + length (bareBytes v))))
+          → Unbroken (onFound x (λ b f. walkFrom (byteIn text) (ruled text) (suc k + 1) ss b f) Refused)
+      go (StepTaken.miss why h e f) r = rw f (λ i. omega (arith, i, h))
+      go (StepTaken.stop place e f) r = rw f (λ i. omega (arith, i))
+      go (StepTaken.hit b w e f g) r = rw (f, add-one) (r b w g)
 
 -- the whole text is a value and blanks
 whole : (text : List ℕ) (t : Text text) → deep (valueOf (t .derivation)) ≤ 64 → Hit text 0 (valueOf (t .derivation)) (valueAt (byteIn text) 0 0 (length text))
@@ -126,30 +135,7 @@ whole text t d =
     let h : Hit text 0 (padded 0 p) (valueAt (byteIn text) 0 0 (0 + length (padBytes p))) = pad-hit text 0 0 0 p (rw e (seg-self text)) (at-start text) low in
     rw (zero-add, e, text-same-tree (t .derivation)) at h
 
-module _ (text : List ℕ) (kids : Selector → Json → List Json) (P : Json → Type 0) (Q : Selector → Type 0)
-    (agree : (s : Selector) (a : ℕ) (v : Bare) → Q s → P (bareTree a v) → rawChildren s (bareTree a v) ≡ kids s (bareTree a v))
-    (keeps : (s : Selector) (t : Json) → P t → All P (kids s t)) where
-  from-whole : (x : Json) (ss : List Selector) → Each Q ss → P x → Hit text 0 x (valueAt (byteIn text) 0 0 (length text)) → Selects text (along kids ss (x ∷ [])) (walk text (ruled text) ss)
-  unfolding walk
-  from-whole x ss q p h =
-      let fits = value-in (byteIn text) 0 0 (length text) (length text) (omega arith) (omega arith) in
-      let f : ItemInRecord (length text) (Items.Found (h .place) (h .place + length (bareBytes (h .value)))) = rw (h .is-part) at fits in
-      rw (h .is-tree, h .is-part) (walked text kids P Q agree keeps ss 0 (h .place) (h .value) q (rw (h .is-tree) at p) (h .good) (f .1))
-
--- ---- the steps of the subset's paths have ASCII names
-
-letter-ascii : {b : ℕ} → Letter b → b < 0x80
-letter-ascii (Letter.upper h) = omega arith
-letter-ascii (Letter.lower h) = omega arith
-letter-ascii Letter.underscore = omega arith
-
-rest-ascii : {bs : List ℕ} → Rest bs → Ascii bs
-rest-ascii Rest.none = tt
-rest-ascii (Rest.letter l r) = (letter-ascii l, rest-ascii r)
-rest-ascii (Rest.digit h r) = (omega arith, rest-ascii r)
-
-name-ascii : {n : List ℕ} → Name n → Ascii n
-name-ascii (Name.starts l r) = (letter-ascii l, rest-ascii r)
+-- ---- by the rules' bits
 
 steps-plain : {bs : List ℕ} {ss : List Selector} → Steps bs ss → Each PlainName ss
 steps-plain Steps.none = tt
@@ -159,43 +145,17 @@ steps-plain (Steps.bracket d s) = (tt, steps-plain s)
 path-plain : {bs : List ℕ} {ss : List Selector} → Path bs ss → Each PlainName ss
 path-plain (Path.root s) = steps-plain s
 
--- ---- by the rules' bits
-
--- with unescaped and unrepeated names: what RFC 9535 selects
-along-segments : (ss : List Selector) (ts : List Json) → along children ss ts ≡ segments ss ts
-unfolding segments
-along-segments [] ts = refl
-along-segments (s ∷ ss) ts = along-segments ss (flat (children s) ts)
-
-all-fair : (ts : List Json) → AllFair ts → All Fair ts
-all-fair [] h = tt
-all-fair (t ∷ ts) h = (h .0, all-fair ts (h .1))
-
 walk-selects : (text : List ℕ) (t : Obeys text) (path : List ℕ) (ss : List Selector) → Path path ss → Selects text (select ss (root t)) (walk text (ruled text) ss)
-unfolding select
+unfolding select walk
 walk-selects text t path ss p =
-    rw (along-segments ss (root t ∷ [])) at
-    (from-whole text children Fair PlainName children-same (λ s x h. all-fair (children s x) (children-fair s x h)) (root t) ss (path-plain p) (t .fair)
-    (whole text (t .json) (omega (arith, t .shallow))))
-
--- whatever the names: no broken item
-all-true : (ts : List Json) → All (λ _. Unit {0}) ts
-all-true [] = tt
-all-true (t ∷ ts) = (tt, all-true ts)
-
-each-true : (ss : List Selector) → Each (λ _. Unit {0}) ss
-each-true [] = tt
-each-true (s ∷ ss) = (tt, each-true ss)
-
-selects-unbroken : {text : List ℕ} {ts : List Json} {x : Answer} → Selects text ts x → Unbroken x
-selects-unbroken (Selects.one t e) i = omega (arith, i)
-selects-unbroken (Selects.none h) i = omega (arith, i)
+    let h = whole text (t .json) (t .shallow) in
+    let fits = value-in (byteIn text) 0 0 (length text) (length text) (omega arith) (omega arith) in
+    let f : ItemInRecord (length text) (Items.Found (h .place) (h .place + length (bareBytes (h .value)))) = rw (h .is-part) at fits in
+    rw (h .is-tree, h .is-part) (walked text ss 0 (h .place) (h .value) (path-plain p) (rw (h .is-tree) at (t .fair)) (h .good) (f .1))
 
 walk-unbroken : (text : List ℕ) (t : Text text) → deep (valueOf (t .derivation)) ≤ 64 → (ss : List Selector) → Unbroken (walk text (ruled text) ss)
-walk-unbroken text t d ss =
-    selects-unbroken
-    (from-whole text rawChildren (λ _. Unit {0}) (λ _. Unit {0}) (λ s a v q p. refl) (λ s x h. all-true (rawChildren s x)) (valueOf (t .derivation)) ss
-    (each-true ss) tt (whole text t d))
+unfolding walk
+walk-unbroken text t d ss = let h = whole text t d in rw (h .is-part) (walked-unbroken text ss 0 (h .place) (h .value) (h .good))
 
 -- ---- by lent words: the checks in their order, then the walk
 

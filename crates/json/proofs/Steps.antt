@@ -1,4 +1,4 @@
--- One step of the walk into a value that is derived: a part with what is taken from its node, or one of 23 to 26 where nothing is. By cases of
+-- One step of the walk into a value that is derived: a part with what is taken from its node, or one of 23 to 26 where nothing is, or 30. By cases of
 -- the value and the step.
 use mathlib.Core.Path.{_≡_, refl, ap, _∙_}
 use mathlib.Core.Bool.{true, false}
@@ -13,6 +13,7 @@ use lib.ListN.{length, getD, length-append}
 use Rattle.rules.specs.Layout.{bitOf}
 use Rattle.paths.specs.Grammar.{In, Selector, name, number}
 use Rattle.paths.specs.Places.{byteIn}
+use Rattle.names.specs.Spelling.{matched}
 use Rattle.query.specs.Items.{solid, trimStart, itemAt, firstItem, itemNo}
 use Rattle.walks.specs.Ruled.{ruled}
 use Rattle.query.specs.Walk.{ofItem, framed, filled, nameStep, numberStep, stepBy}
@@ -21,7 +22,8 @@ use Rattle.query.specs.declared.items.Item.{Item}
 use Rattle.query.specs.declared.types.Answer.{Answer}
 use Rattle.query.specs.declared.types.Answer.the-variants.{Found, Refused}
 use Rattle.query.specs.declared.types.Refusal.{Refusal}
-use Rattle.query.specs.declared.types.Refusal.the-variants.{Missed}
+use Rattle.query.specs.declared.types.Refusal.the-variants.{Missed, Broken}
+use Rattle.query.specs.declared.types.Cause.the-variants.{BadEscape}
 use Rattle.query.specs.declared.types.Miss.the-variants.{NotObject, NotArray, NoName, NoNumber}
 use Rattle.paths.proofs.PlaceLaws.{first-at}
 use Rattle.texts.specs.Grammar.{Ws, Number, stringBytes}
@@ -33,20 +35,22 @@ use Rattle.json.proofs.Machine.{up, sortOf, out}
 use Rattle.json.proofs.Trace.{At, Stepped, at-step, Seg}
 use Rattle.json.proofs.Stretches.{seg-left, seg-right}
 use Rattle.json.proofs.Parts.{Ends, ws-blank, all-blank}
-use Rattle.json.proofs.Values.{snoc-length, bracket-ends, value-ends, Good, Taken, none, one}
+use Rattle.json.proofs.Values.{snoc-length, bracket-ends, value-ends, Good, Taken, none, one, unpaired}
 use Rattle.json.proofs.Elements.{commasOf, number-taken}
 use Rattle.json.proofs.Members.{names-taken}
-use Rattle.json.proofs.Names.{rawChildren}
+use Rattle.json.proofs.Names.{Picked, nodes, bad, firstOnes}
 
 -- what is taken from a node, and what the step answers
-pub data StepTaken (text : List ℕ) (k : ℕ) (ts : List Json) (x : Answer) : Type 0 where
-  miss : (why : Refusal) → In 23 26 (refusalNumber why) → ts ≡ [] → x ≡ Refused why → StepTaken text k ts x
-  hit : (a : ℕ) (v : Bare) → ts ≡ bareTree a v ∷ [] → x ≡ Found a (a + length (bareBytes v)) → Good text k a v → StepTaken text k ts x
+pub data StepTaken (text : List ℕ) (k : ℕ) (ts : Picked) (x : Answer) : Type 0 where
+  miss : (why : Refusal) → In 23 26 (refusalNumber why) → ts ≡ nodes [] → x ≡ Refused why → StepTaken text k ts x
+  stop : (place : ℕ) → ts ≡ bad → x ≡ Refused (Broken BadEscape k place) → StepTaken text k ts x
+  hit : (a : ℕ) (v : Bare) → ts ≡ nodes (bareTree a v ∷ []) → x ≡ Found a (a + length (bareBytes v)) → Good text k a v → StepTaken text k ts x
 
 module _ (text : List ℕ) (k : ℕ) where
-  of-item : (ts : List Json) (x : Item) (why : Refusal) → In 23 26 (refusalNumber why) → Taken text (suc k) ts x → StepTaken text (suc k) ts (ofItem why (suc k) x)
+  of-item : (ts : Picked) (x : Item) (why : Refusal) → In 23 26 (refusalNumber why) → Taken text (suc k) ts x → StepTaken text (suc k) ts (ofItem why (suc k) x)
   of-item ts x why h (none e f) = miss why h e (rw f)
-  of-item ts x why h (one t e i) = hit (i .place) (i .value) (e ∙ ap (λ (t : Json). t ∷ []) (i .is-tree)) (rw (i .is-part)) (i .good)
+  of-item ts x why h (unpaired p e f) = stop p e (rw f)
+  of-item ts x why h (one t e i) = hit (i .place) (i .value) (e ∙ ap (λ (t : Json). nodes (t ∷ [])) (i .is-tree)) (rw (i .is-part)) (i .good)
 
   -- ---- between the brackets
 
@@ -91,7 +95,7 @@ module _ (text : List ℕ) (k : ℕ) where
   no-array i a e h = rw (not-framed 0x5B 0x5D a e h)
 
   scalar-step : (s : Selector) (a e : ℕ) (bs : List ℕ) → getD text a 0 ≢ 0x7B → getD text a 0 ≢ 0x5B
-      → StepTaken text (suc k) (rawChildren s (scalar a bs)) (stepBy (byteIn text) (ruled text) (suc k) s a e)
+      → StepTaken text (suc k) (firstOnes s (scalar a bs)) (stepBy (byteIn text) (ruled text) (suc k) s a e)
   scalar-step (name n) a e bs h l = miss (Missed NotObject (suc k) a) (omega arith) refl (no-object n a e h)
   scalar-step (number i) a e bs h l = miss (Missed NotArray (suc k) a) (omega arith) refl (no-array i a e l)
 
@@ -152,7 +156,7 @@ module _ (text : List ℕ) (k : ℕ) where
 
   object-step : (n : List ℕ) (a : ℕ) (xs : List ℕ) → Seg text a (0x7B ∷ (xs ++ (0x7D ∷ []))) → filled (byteIn text) a (a + length (0x7B ∷ (xs ++ (0x7D ∷ [])))) ≡ true
       → nameStep (byteIn text) (ruled text) (suc k) n a (a + length (0x7B ∷ (xs ++ (0x7D ∷ []))))
-      ≡ ofItem (Missed NoName (suc k) a) (suc k) (firstItem (itemAt (byteIn text) (ruled text) (suc k) n) (commasOf text k) (suc a) (suc a + length xs))
+      ≡ ofItem (Missed NoName (suc k) a) (suc k) (firstItem (itemAt (byteIn text) (ruled text) (suc k) (matched n)) (commasOf text k) (suc a) (suc a + length xs))
   unfolding nameStep bitOf
   object-step n a xs g f = rw (is-framed 0x7B 0x7D a xs g, f, inner-end 0x7B 0x7D a xs g, add-one a)
 
@@ -162,7 +166,7 @@ module _ (text : List ℕ) (k : ℕ) where
   object-none n a xs g b = rw (is-framed 0x7B 0x7D a xs g, is-empty 0x7B 0x7D a xs g b)
 
   array-value : (s : Selector) (a : ℕ) (es : Elems) → Good text k a (Bare.array es)
-      → StepTaken text (suc k) (rawChildren s (bareTree a (Bare.array es))) (stepBy (byteIn text) (ruled text) (suc k) s a (a + length (bareBytes (Bare.array es))))
+      → StepTaken text (suc k) (firstOnes s (bareTree a (Bare.array es))) (stepBy (byteIn text) (ruled text) (suc k) s a (a + length (bareBytes (Bare.array es))))
   unfolding deep
   array-value (name n) a es g = miss (Missed NotObject (suc k) a) (omega arith) refl (no-object n a _ (λ e. omega (arith, e, g .seg .0)))
   array-value (number i) a es g =
@@ -173,7 +177,7 @@ module _ (text : List ℕ) (k : ℕ) where
       (of-item _ _ (Missed NoNumber (suc k) a) (omega arith) (number-taken text k i (suc a) es _ refl sg at (omega (arith, g .shallow))))
 
   object-value : (s : Selector) (a : ℕ) (ms : Entries) → Good text k a (Bare.object ms)
-      → StepTaken text (suc k) (rawChildren s (bareTree a (Bare.object ms))) (stepBy (byteIn text) (ruled text) (suc k) s a (a + length (bareBytes (Bare.object ms))))
+      → StepTaken text (suc k) (firstOnes s (bareTree a (Bare.object ms))) (stepBy (byteIn text) (ruled text) (suc k) s a (a + length (bareBytes (Bare.object ms))))
   unfolding firstItem deep
   object-value (name n) a ms g =
       let sg : Seg text (suc a) (entriesBytes ms) = seg-left text (suc a) (entriesBytes ms) (0x7D ∷ []) (g .seg .1) in
@@ -185,18 +189,18 @@ module _ (text : List ℕ) (k : ℕ) where
   object-value (number i) a ms g = miss (Missed NotArray (suc k) a) (omega arith) refl (no-array i a _ (λ e. omega (arith, e, g .seg .0)))
 
   empty-array-value : {w : List ℕ} (s : Selector) (a : ℕ) (e : Ws w) → Good text k a (Bare.empty-array e)
-      → StepTaken text (suc k) (rawChildren s (bareTree a (Bare.empty-array e))) (stepBy (byteIn text) (ruled text) (suc k) s a (a + length (bareBytes (Bare.empty-array e))))
+      → StepTaken text (suc k) (firstOnes s (bareTree a (Bare.empty-array e))) (stepBy (byteIn text) (ruled text) (suc k) s a (a + length (bareBytes (Bare.empty-array e))))
   unfolding nth
   empty-array-value (name n) a e g = miss (Missed NotObject (suc k) a) (omega arith) refl (no-object n a _ (λ z. omega (arith, z, g .seg .0)))
   empty-array-value {w} (number i) a e g = miss (Missed NoNumber (suc k) a) (omega arith) refl (array-none i a w (g .seg) e)
 
   empty-object-value : {w : List ℕ} (s : Selector) (a : ℕ) (e : Ws w) → Good text k a (Bare.empty-object e)
-      → StepTaken text (suc k) (rawChildren s (bareTree a (Bare.empty-object e))) (stepBy (byteIn text) (ruled text) (suc k) s a (a + length (bareBytes (Bare.empty-object e))))
+      → StepTaken text (suc k) (firstOnes s (bareTree a (Bare.empty-object e))) (stepBy (byteIn text) (ruled text) (suc k) s a (a + length (bareBytes (Bare.empty-object e))))
   empty-object-value {w} (name n) a e g = miss (Missed NoName (suc k) a) (omega arith) refl (object-none n a w (g .seg) e)
   empty-object-value (number i) a e g = miss (Missed NotArray (suc k) a) (omega arith) refl (no-array i a _ (λ z. omega (arith, z, g .seg .0)))
 
   number-value : (s : Selector) (a : ℕ) (bs : List ℕ) → Number bs → Seg text a bs
-      → StepTaken text (suc k) (rawChildren s (scalar a bs)) (stepBy (byteIn text) (ruled text) (suc k) s a (a + length bs))
+      → StepTaken text (suc k) (firstOnes s (scalar a bs)) (stepBy (byteIn text) (ruled text) (suc k) s a (a + length bs))
   number-value s a bs n g =
       let f = number-starts n in
       let sg : Seg text a (f .first ∷ f .rest) = rw (f .whole) at g in
@@ -204,7 +208,7 @@ module _ (text : List ℕ) (k : ℕ) where
 
   -- the step, at any value
   pub step-right : (s : Selector) (a : ℕ) (v : Bare) → Good text k a v
-      → StepTaken text (suc k) (rawChildren s (bareTree a v)) (stepBy (byteIn text) (ruled text) (suc k) s a (a + length (bareBytes v)))
+      → StepTaken text (suc k) (firstOnes s (bareTree a v)) (stepBy (byteIn text) (ruled text) (suc k) s a (a + length (bareBytes v)))
   step-right s a Bare.false g = scalar-step s a _ _ (λ e. omega (arith, e, g .seg .0)) (λ e. omega (arith, e, g .seg .0))
   step-right s a Bare.null g = scalar-step s a _ _ (λ e. omega (arith, e, g .seg .0)) (λ e. omega (arith, e, g .seg .0))
   step-right s a Bare.true g = scalar-step s a _ _ (λ e. omega (arith, e, g .seg .0)) (λ e. omega (arith, e, g .seg .0))

@@ -10,7 +10,8 @@ use lib.ListN.{length, getD, length-append}
 use Rattle.paths.specs.Places.{byteIn}
 use Rattle.query.specs.Items.{valueAt}
 use Rattle.query.specs.declared.items.Item.{Item}
-use Rattle.query.specs.declared.items.Item.the-variants.{Found, Other}
+use Rattle.query.specs.declared.items.Item.the-variants.{Found, Other, Broken}
+use Rattle.query.specs.declared.types.Cause.the-variants.{BadEscape}
 use Rattle.texts.specs.Grammar.{Number}
 use Rattle.texts.specs.Nodes.{Json, deep}
 use Rattle.texts.proofs.Padded.{number-starts, Bare, Pad, bareBytes, padBytes, elemsBytes, entriesBytes, bareTree, padded}
@@ -19,6 +20,7 @@ use Rattle.json.proofs.Derive.{Solids, number-solids, plains-run, ws-pl
 use Rattle.json.proofs.Trace.{At, Seg, trace}
 use Rattle.json.proofs.Stretches.{seg-left, seg-right, seg-at}
 use Rattle.json.proofs.Parts.{Ends, solid-here, value-mid}
+use Rattle.json.proofs.Names.{Picked, nodes, bad}
 
 -- ---- the ends of a value
 
@@ -79,9 +81,10 @@ pub record Hit (text : List ℕ) (k : ℕ) (t : Json) (x : Item) : Type 0 where
   pub good : Good text k place value
 
 -- what is taken from a node, and the item that the walk makes of it
-pub data Taken (text : List ℕ) (k : ℕ) (ts : List Json) (x : Item) : Type 0 where
-  none : ts ≡ [] → x ≡ Other → Taken text k ts x
-  one : (t : Json) → ts ≡ t ∷ [] → Hit text k t x → Taken text k ts x
+pub data Taken (text : List ℕ) (k : ℕ) (ts : Picked) (x : Item) : Type 0 where
+  none : ts ≡ nodes [] → x ≡ Other → Taken text k ts x
+  one : (t : Json) → ts ≡ nodes (t ∷ []) → Hit text k t x → Taken text k ts x
+  unpaired : (place : ℕ) → ts ≡ bad → x ≡ Broken BadEscape place → Taken text k ts x
 
 module _ (text : List ℕ) (k : ℕ) where
   pub pad-hit : (place a : ℕ) (p : Pad) → Seg text a (padBytes p) → At text a (out k) → deep (padded a p) + k ≤ 64

@@ -16,7 +16,7 @@ use Rattle.texts.specs.Grammar.{In, Text}
 use Rattle.texts.specs.Nodes.{Json, valueOf, firstOf, bytesOf, deep}
 use Rattle.json.specs.Select.{select, Fair}
 
--- a text that obeys RFC 8259, brackets at most 64 deep, each object's names unescaped and unrepeated
+-- a text that obeys RFC 8259, brackets at most 64 deep, each object's names unrepeated by their characters and without unpaired surrogate
 pub record Obeys (text : List ℕ) : Type 0 where
   pub json : Text text
   pub shallow : deep (valueOf (json .derivation)) ≤ 64
@@ -46,12 +46,12 @@ pub data Selects (text : List ℕ) : List Json → Answer → Type 0 where
       → Selects text (t ∷ []) (Found (firstOf t) (firstOf t + length (bytesOf t)))
   none : {why : Refusal} → In 23 26 (refusalNumber why) → Selects text [] (Refused why)
 
--- an answer that tells of no broken item: not 27, 28 or 29
+-- an answer that tells of no broken item but for 30: not 27, 28 or 29
 abbrev pub Unbroken : Answer → Type 0
 Unbroken r = In 27 29 (numberOf r) → ⊥
 
--- what is proved, for every derivation of the text: a query finds what RFC 9535 selects; whatever the names, no query finds a broken item; and
--- such a text is sound
+-- what is proved, for every derivation of the text: a query finds what RFC 9535 selects; whatever the names, no query gives 27, 28 or
+-- 29; and such a text is sound
 pub record Claim : Type 0 where
   pub selected : (text words : List ℕ) (levels : ℕ) (path : List ℕ) (ss : List Selector) (t : Obeys text) → AskedWith text words levels path ss
       → Selects text (select ss (root t)) (answerOf text words levels path)

@@ -1,11 +1,14 @@
 -- What a path of RFC 9535 selects from the values of a text.
-use mathlib.Core.Bool.{Bool, true, false}
+use mathlib.Core.Path.{_≡_}
+use mathlib.Core.Bool.{Bool, true, false, _||_}
 use mathlib.Core.Logic.{_≢_}
 use mathlib.Core.List.{List, [], _∷_, _++_}
 use Prim.Native.Nat.{ℕ, zero, suc}
 use Rattle.paths.specs.Grammar.{Selector, name, number}
-use Rattle.query.specs.Items.{same}
-use Rattle.texts.specs.Nodes.{Json, scalar, array, object, Items, noItems, item, Fields, noFields, field}
+use Rattle.names.specs.Spelling.{same}
+use Rattle.names.specs.declared.Match.{Match}
+use Rattle.names.specs.declared.Match.the-variants.{Same, Different, BadEscape}
+use Rattle.texts.specs.Nodes.{isHigh, isLow, Json, scalar, array, object, Items, noItems, item, Fields, noFields, field}
 
 -- ---- RFC 9535: what a selector takes from a node
 
@@ -49,17 +52,17 @@ select ss root = segments ss (root ∷ [])
 
 -- ---- the conditions of demand 2
 
--- no byte of the name is a backslash
-abbrev pub NoEscape : List ℕ → Type 0
-NoEscape [] = Unit {0}
-NoEscape (b ∷ bs) = (b ≢ 0x5C) × NoEscape bs
+-- "no unpaired surrogate": none is left where pairs are joined
+abbrev pub NoneUnpaired : List ℕ → Type 0
+NoneUnpaired [] = Unit {0}
+NoneUnpaired (u ∷ us) = ((isHigh u || isLow u) ≡ false) × NoneUnpaired us
 
 -- none of the fields has that name
 abbrev pub Fresh : List ℕ → Fields → Type 0
 Fresh us noFields = Unit {0}
 Fresh us (field raw vs t fs) = (us ≢ vs) × Fresh us fs
 
--- each object's names are unescaped and, by their characters, unrepeated
+-- each object's names have no unpaired surrogate and are, by their characters, unrepeated
 abbrev mutual
   pub Fair : Json → Type 0
   Fair (scalar a bs) = Unit {0}
@@ -72,4 +75,11 @@ abbrev mutual
 
   pub FairFields : Fields → Type 0
   FairFields noFields = Unit {0}
-  FairFields (field raw us t fs) = NoEscape raw × Fresh us fs × Fair t × FairFields fs
+  FairFields (field raw us t fs) = NoneUnpaired us × Fresh us fs × Fair t × FairFields fs
+
+-- ---- a name of those characters, for a path's name: "names compare by their characters"; 30 for "an unpaired surrogate"
+
+pub data ByCharacters (us n : List ℕ) : Match → Type 0 where
+  that-name : NoneUnpaired us → us ≡ n → ByCharacters us n Same
+  other-name : NoneUnpaired us → us ≢ n → ByCharacters us n Different
+  unpaired : (NoneUnpaired us → ⊥) → ByCharacters us n BadEscape

@@ -11,10 +11,13 @@ use Rattle.rules.specs.Layout.{sizeOf, widthOf}
 use Rattle.paths.specs.Places.{byteIn, between, firstAt}
 use Rattle.paths.specs.Grammar.{Selector, name, number}
 use Rattle.paths.specs.Path.{Reading, good, bad, readPath, large}
-use Rattle.query.specs.Items.{Bits, lent, solid, trimStart, trimEnd, valueAt, same, quoted, keyed, itemAt, orElse, firstItemIn, firstItem, itemNo}
+use Rattle.names.specs.Spelling.{matched}
+use Rattle.names.specs.declared.Match.{Match}
+use Rattle.names.proofs.Comparing.{match-ind}
+use Rattle.query.specs.Items.{Bits, lent, solid, trimStart, trimEnd, valueAt, quoted, keyed, itemAt, orElse, firstItemIn, firstItem, itemNo}
 use Rattle.query.specs.Walk.{onFound, ofItem, framed, filled, nameStep, numberStep, stepBy, walkFrom, walk}
 use Rattle.query.specs.Answers.{afterReading, answerOf}
-use Rattle.query.specs.declared.types.Cause.the-variants.{NoColon, BadName, EmptyValue}
+use Rattle.query.specs.declared.types.Cause.the-variants.{NoColon, BadName, EmptyValue, BadEscape}
 use Rattle.query.specs.declared.types.Miss.the-variants.{NoName, NoNumber}
 use Rattle.query.specs.declared.types.Refusal.{Refusal}
 use Rattle.query.specs.declared.types.Refusal.the-variants.{EmptyRecord, LongRecord, BadLevels, BadBuffer, TooLarge, TooDeep, Missed, Broken}
@@ -43,22 +46,19 @@ value-in byte place a e n h l =
     (λ q. (ltb-true _ _ q, omega (arith, last-bounds (solid byte) (trimStart byte a e) e (first-le (solid byte) a e h))))
     (λ _. tt)
 
-keyed-in : (byte : ℕ → ℕ) (quote : ℕ → Bool) (m : List ℕ) (a d e n : ℕ) → d < e → e ≤ n → ItemInRecord n (keyed byte quote m a d e)
+keyed-in : (byte : ℕ → ℕ) (quote : ℕ → Bool) (test : List ℕ → Match) (a d e n : ℕ) → d < e → e ≤ n → ItemInRecord n (keyed byte quote test a d e)
 unfolding keyed
-keyed-in byte quote m a d e n h l =
-    let p = trimStart byte a d in
-    let q = trimEnd byte a d in
-    let b = same (between byte (p + 1) (q - 1)) m in
-    pick-ind (ItemInRecord n) (quoted quote p q) (pick b (valueAt byte a (d + 1) e) Items.Other) (Items.Broken BadName a)
-    (λ _. pick-ind (ItemInRecord n) b (valueAt byte a (d + 1) e) Items.Other (λ _. value-in byte a (d + 1) e n (omega arith) l) (λ _. tt))
+keyed-in byte quote test a d e n h l =
+    pick-ind (ItemInRecord n) (quoted quote (trimStart byte a d) (trimEnd byte a d)) _ _
+    (λ _. match-ind (ItemInRecord n) (test (between byte (trimStart byte a d + 1) (trimEnd byte a d - 1))) _ _ _ (λ _. value-in byte a (d + 1) e n (omega arith) l) (λ _. tt) (λ _. tt))
     (λ _. tt)
 
-item-in : (byte : ℕ → ℕ) (bits : Bits) (k : ℕ) (m : List ℕ) (a e n : ℕ) → e ≤ n → ItemInRecord n (itemAt byte bits k m a e)
+item-in : (byte : ℕ → ℕ) (bits : Bits) (k : ℕ) (test : List ℕ → Match) (a e n : ℕ) → e ≤ n → ItemInRecord n (itemAt byte bits k test a e)
 unfolding itemAt
-item-in byte bits k m a e n h =
+item-in byte bits k test a e n h =
     let d = firstAt (bits .colon k) a e in
-    pick-ind (ItemInRecord n) (ltb d e) (keyed byte (bits .quote) m a d e) (Items.Broken NoColon a)
-    (λ q. keyed-in byte (bits .quote) m a d e n (ltb-true d e q) h)
+    pick-ind (ItemInRecord n) (ltb d e) (keyed byte (bits .quote) test a d e) (Items.Broken NoColon a)
+    (λ q. keyed-in byte (bits .quote) test a d e n (ltb-true d e q) h)
     (λ _. tt)
 
 orElse-in : (n : ℕ) (it later : Item) → ItemInRecord n it → ItemInRecord n later → ItemInRecord n (orElse it later)
@@ -95,8 +95,8 @@ module _ (byte : ℕ → ℕ) (bits : Bits) (n : ℕ) where
       pick-ind (InRecord n) (framed byte 123 125 a e) _ _
       (λ q. let l = framed-long byte 123 125 a e q in
       pick-ind (InRecord n) (filled byte a e) _ _
-      (λ _. of-in n (Missed NoName k a) k (firstItem (itemAt byte bits k m) (bits .comma k) (a + 1) (e - 1))
-      (items-in (itemAt byte bits k m) (bits .comma k) n (λ b f i. item-in byte bits k m b f n i) (suc (e - 1 - (a + 1))) (a + 1) (e - 1) (omega arith) (omega arith)))
+      (λ _. of-in n (Missed NoName k a) k (firstItem (itemAt byte bits k (matched m)) (bits .comma k) (a + 1) (e - 1))
+      (items-in (itemAt byte bits k (matched m)) (bits .comma k) n (λ b f i. item-in byte bits k (matched m) b f n i) (suc (e - 1 - (a + 1))) (a + 1) (e - 1) (omega arith) (omega arith)))
       (λ _. tt))
       (λ _. tt)
 

@@ -12,7 +12,7 @@ use Rattle.query.specs.Walk.{onFound, walk}
 use Rattle.query.specs.declared.types.Miss.{Miss}
 use Rattle.query.specs.declared.types.Miss.the-variants.{NotObject, NotArray, NoName, NoNumber}
 use Rattle.query.specs.declared.types.Cause.{Cause}
-use Rattle.query.specs.declared.types.Cause.the-variants.{NoColon, BadName, EmptyValue}
+use Rattle.query.specs.declared.types.Cause.the-variants.{NoColon, BadName, EmptyValue, BadEscape}
 use Rattle.query.specs.declared.types.Refusal.{Refusal}
 use Rattle.query.specs.declared.types.Refusal.the-variants.{EmptyRecord, LongRecord, BadLevels, BadBuffer, BadPath, TooLarge, TooDeep, Missed, Broken}
 use Rattle.query.specs.declared.types.Answer.{Answer}
@@ -32,6 +32,7 @@ abbrev pub causeNumber : Cause → ℕ
 causeNumber NoColon = 27
 causeNumber BadName = 28
 causeNumber EmptyValue = 29
+causeNumber BadEscape = 30
 
 abbrev pub refusalNumber : Refusal → ℕ
 refusalNumber EmptyRecord = 1

@@ -1,12 +1,14 @@
 -- Blanks, values, and the items that a step takes: section 'Paths', over bytes and bits as functions of a place.
 use Prim.Native.Nat.{ℕ, zero, suc, _+_, _-_}
 use mathlib.Core.Bool.{Bool, true, false, not, _&&_, _||_}
-use mathlib.Core.List.{List, [], _∷_}
+use mathlib.Core.List.{List}
 use lib.Dec.{ltb, eqb}
 use Rattle.rules.specs.Word.{pick}
 use Rattle.rules.specs.Layout.{quotes, colons, commas, bitIn}
 use Rattle.paths.specs.Places.{between, firstAt, pastLast}
-use Rattle.query.specs.declared.types.Cause.the-variants.{NoColon, BadName, EmptyValue}
+use Rattle.names.specs.Spelling.{onMatch}
+use Rattle.names.specs.declared.Match.{Match}
+use Rattle.query.specs.declared.types.Cause.the-variants.{NoColon, BadName, EmptyValue, BadEscape}
 use Rattle.query.specs.declared.items.Item.{Item}
 use Rattle.query.specs.declared.items.Item.the-variants.{Found, Other, Broken}
 
@@ -43,33 +45,24 @@ valueAt byte place a e = pick (ltb (trimStart byte a e) (trimEnd byte a e)) (Fou
 
 -- ---- items of a name step
 
--- "Names are compared as raw bytes"
-unfoldable pub same : List ℕ → List ℕ → Bool
-same [] [] = true
-same [] (y ∷ ys) = false
-same (x ∷ xs) [] = false
-same (x ∷ xs) (y ∷ ys) = eqb x y && same xs ys
-
 -- from p to q: "a quote bit, none or more bytes without a quote bit, a quote bit"
 unfoldable pub quoted : (ℕ → Bool) → ℕ → ℕ → Bool
 quoted quote p q = ltb (p + 1) q && (quote p && eqb (firstAt quote (p + 1) q + 1) q)
 
--- an item from a to e whose first colon is at d, for the name n: "broken .. if what precedes the first such colon, without end blanks, is not" that;
--- else "the value is what follows that colon"
-unfoldable pub keyed : (ℕ → ℕ) → (ℕ → Bool) → List ℕ → ℕ → ℕ → ℕ → Item
-unfolding valueAt same quoted
-keyed byte quote n a d e =
+-- an item from a to e whose first colon is at d, by a test of its name: "broken .. if what precedes the first such colon, without end blanks, is not"
+-- quoted (28), or if its name is (30); else "the value is what follows that colon"
+unfoldable pub keyed : (ℕ → ℕ) → (ℕ → Bool) → (List ℕ → Match) → ℕ → ℕ → ℕ → Item
+unfolding valueAt quoted
+keyed byte quote test a d e =
     pick (quoted quote (trimStart byte a d) (trimEnd byte a d))
-    (pick (same (between byte (trimStart byte a d + 1) (trimEnd byte a d - 1)) n)
-    (valueAt byte a (d + 1) e)
-    Other)
+    (onMatch (test (between byte (trimStart byte a d + 1) (trimEnd byte a d - 1))) (valueAt byte a (d + 1) e) Other (Broken BadEscape a))
     (Broken BadName a)
 
 -- an item from a to e: "broken if it has no colon of level k". Its place is "the byte after the bracket or comma before it"
-unfoldable pub itemAt : (ℕ → ℕ) → Bits → ℕ → List ℕ → ℕ → ℕ → Item
+unfoldable pub itemAt : (ℕ → ℕ) → Bits → ℕ → (List ℕ → Match) → ℕ → ℕ → Item
 unfolding keyed
-itemAt byte bits k n a e =
-    pick (ltb (firstAt (bits .colon k) a e) e) (keyed byte (bits .quote) n a (firstAt (bits .colon k) a e) e) (Broken NoColon a)
+itemAt byte bits k test a e =
+    pick (ltb (firstAt (bits .colon k) a e) e) (keyed byte (bits .quote) test a (firstAt (bits .colon k) a e) e) (Broken NoColon a)
 
 -- another item goes on, one that is found or broken stops
 abbrev pub orElse : Item → Item → Item

@@ -7,6 +7,7 @@ use lib.Dec.{ltb, eqb}
 use Rattle.rules.specs.Word.{pick}
 use Rattle.paths.specs.Places.{byteIn}
 use Rattle.paths.specs.Grammar.{Selector, name, number}
+use Rattle.names.specs.Spelling.{matched}
 use Rattle.query.specs.Items.{Bits, trimStart, valueAt, itemAt, firstItem, itemNo}
 use Rattle.query.specs.declared.types.Cause.the-variants.{EmptyValue}
 use Rattle.query.specs.declared.types.Miss.the-variants.{NotObject, NotArray, NoName, NoNumber}
@@ -42,7 +43,7 @@ unfolding framed filled
 nameStep byte bits k n a e =
     pick (framed byte 123 125 a e)
     (pick (filled byte a e)
-    (ofItem (Missed NoName k a) k (firstItem (itemAt byte bits k n) (bits .comma k) (a + 1) (e - 1)))
+    (ofItem (Missed NoName k a) k (firstItem (itemAt byte bits k (matched n)) (bits .comma k) (a + 1) (e - 1)))
     (Refused (Missed NoName k a)))
     (Refused (Missed NotObject k a))
 

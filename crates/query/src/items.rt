@@ -4,13 +4,15 @@ use crate::bits::Shape;
 use crate::blanks;
 use crate::types::Cause;
 use layout::Map;
+use names::Match;
 ghost use mathlib.Core.Path.{_≡_};
 ghost use Prim.Native.Nat.{_+_, _≤_, _<_};
 ghost use lib.ListN.{length};
 ghost use Rattle.rules.specs.Layout.{bitIn, quotes, commas};
 ghost use Rattle.query.specs.Helpers.{Shaped, Readable, Long};
 ghost use Rattle.paths.specs.Places.{byteIn, between};
-ghost use Rattle.query.specs.Items.{lent, valueAt, same, quoted, keyed, itemAt, firstItem, itemNo};
+ghost use Rattle.names.specs.Spelling.{matched};
+ghost use Rattle.query.specs.Items.{lent, valueAt, quoted, keyed, itemAt, firstItem, itemNo};
 
 // What an item is to a step.
 pub enum Item {
@@ -37,25 +39,6 @@ pub fn value_at(text: &[u8], place: usize, a: usize, e: usize) -> Item
             place,
         }
     }
-}
-
-// The bytes p to q of the record are the bytes b to f of the path.
-fn same_name(text: &[u8], p: usize, q: usize, path: &[u8], b: usize, f: usize) -> bool
-    requires { ⌜ (p ≤ q) × (q ≤ length (now text)) × (b ≤ f) × (f ≤ length (now path)) ⌝ }
-    ensures { λ r. ⌜ r ≡ same (between (byteIn (now (text .entry))) p q) (between (byteIn (now (path .entry))) b f) ⌝ }
-{
-    let n = f - b;
-    if q - p != n {
-        return false;
-    }
-    let mut k = 0;
-    while k < n {
-        if text[p + k] != path[b + k] {
-            return false;
-        }
-        k += 1;
-    }
-    true
 }
 
 // From p to q: a quote bit, none or more bytes without one, a quote bit.
@@ -89,7 +72,7 @@ fn keyed_item(
 ) -> Item
     requires { ⌜ Shaped (now text) (now words) s ⌝ }
     requires { ⌜ (a ≤ d) × (d < e) × (e ≤ length (now text)) × (b ≤ f) × (f ≤ length (now path)) ⌝ }
-    ensures { λ r. ⌜ r ≡ keyed (byteIn (now (text .entry))) (bitIn (now (words .entry)) (s .levels) (s .width) quotes) (between (byteIn (now (path .entry))) b f) a d e ⌝ }
+    ensures { λ r. ⌜ r ≡ keyed (byteIn (now (text .entry))) (bitIn (now (words .entry)) (s .levels) (s .width) quotes) (matched (between (byteIn (now (path .entry))) b f)) a d e ⌝ }
 {
     let p = blanks::skip_blanks(text, a, d);
     let q = blanks::drop_blanks(text, p, d);
@@ -99,10 +82,14 @@ fn keyed_item(
             place: a,
         };
     }
-    if same_name(text, p + 1, q - 1, path, b, f) {
-        value_at(text, a, d + 1, e)
-    } else {
-        Item::Other
+    let found = names::match_name(text, p + 1, q - 1, path, b, f);
+    match found {
+        Match::Same => value_at(text, a, d + 1, e),
+        Match::Different => Item::Other,
+        Match::BadEscape => Item::Broken {
+            why: Cause::BadEscape,
+            place: a,
+        },
     }
 }
 
@@ -121,7 +108,7 @@ fn item_of(
     requires { ⌜ Shaped (now text) (now words) s ⌝ }
     requires { ⌜ (1 ≤ k) × (k ≤ s .levels) ⌝ }
     requires { ⌜ (a ≤ e) × (e ≤ length (now text)) × (b ≤ f) × (f ≤ length (now path)) ⌝ }
-    ensures { λ r. ⌜ r ≡ itemAt (byteIn (now (text .entry))) (lent (now (words .entry)) (s .levels) (s .width)) k (between (byteIn (now (path .entry))) b f) a e ⌝ }
+    ensures { λ r. ⌜ r ≡ itemAt (byteIn (now (text .entry))) (lent (now (words .entry)) (s .levels) (s .width)) k (matched (between (byteIn (now (path .entry))) b f)) a e ⌝ }
 {
     let d = bits::next_bit(words, s, Map::Colons(k), a, e);
     if d < e {
@@ -149,7 +136,7 @@ pub fn find_name(
     requires { ⌜ Shaped (now text) (now words) s ⌝ }
     requires { ⌜ (1 ≤ k) × (k ≤ s .levels) ⌝ }
     requires { ⌜ (lo < hi) × (hi ≤ length (now text)) × (b ≤ f) × (f ≤ length (now path)) ⌝ }
-    ensures { λ r. ⌜ r ≡ firstItem (itemAt (byteIn (now (text .entry))) (lent (now (words .entry)) (s .levels) (s .width)) k (between (byteIn (now (path .entry))) b f)) (bitIn (now (words .entry)) (s .levels) (s .width) (commas k)) lo hi ⌝ }
+    ensures { λ r. ⌜ r ≡ firstItem (itemAt (byteIn (now (text .entry))) (lent (now (words .entry)) (s .levels) (s .width)) k (matched (between (byteIn (now (path .entry))) b f))) (bitIn (now (words .entry)) (s .levels) (s .width) (commas k)) lo hi ⌝ }
 {
     let mut start = lo;
     let mut at = lo;

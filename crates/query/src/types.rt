@@ -10,11 +10,12 @@ pub enum Miss {
     NoNumber,
 }
 
-// What is wrong with a broken item, or with a record that is blank all through: 27 to 29.
+// What is wrong with a broken item, or with a record that is blank all through: 27 to 30.
 pub enum Cause {
     NoColon,
     BadName,
     EmptyValue,
+    BadEscape,
 }
 
 // Why there is no part. A miss and a broken item tell the path step, from 1, and a place in the record.
@@ -67,6 +68,7 @@ impl Cause {
             Cause::NoColon => 27,
             Cause::BadName => 28,
             Cause::EmptyValue => 29,
+            Cause::BadEscape => 30,
         }
     }
 }

@@ -1,4 +1,4 @@
--- The reports of the scope that are marked P, 1 to 10, 12 and 13 as One amends it, and what One decides: one table, and a single claim over it.
+-- The reports of the scope that are marked P, 1 to 10, 12 and 13 as One amends it, and what One and Two decide: one table, and a single claim over it.
 use Prim.Native.Nat.{ℕ, _^_}
 use mathlib.Core.Bool.{Bool, true, false, _&&_}
 use mathlib.Core.List.{List, [], _∷_, _++_}
@@ -11,7 +11,8 @@ use Rattle.rules.specs.Bits.{runBefore, escaped, quoteBit, inString, maskBit, p
 use Rattle.rules.specs.Faults.{Verdict, sound, faulty, closesNone, opensOver, atEnd, faultFrom, faultOf}
 use Rattle.rules.specs.Layout.{Bitmap, quotes, mask, colons, commas, widthOf, sizeOf, row, bitmapOf, address, bitIn, bitOf, listed, index, laid, cell}
 use Rattle.paths.specs.Places.{byteIn, firstIn, firstAt, pastLastIn, pastLast}
-use Rattle.query.specs.Items.{isBlank, valueAt, same, quoted, keyed, itemAt, firstItemIn, firstItem, itemNo}
+use Rattle.names.specs.Spelling.{hexOf, fourOf, unitOf, shortOf, spelt, spellFrom, spelling, same, matched}
+use Rattle.query.specs.Items.{isBlank, valueAt, quoted, keyed, itemAt, firstItemIn, firstItem, itemNo}
 use Rattle.paths.specs.Path.{isDigit, isHead, isTail, decimal, stepAt, readFrom, readPath, large}
 use Rattle.query.specs.Walk.{framed, filled, nameStep, numberStep, walkFrom, walk}
 use Rattle.query.specs.Answers.{numberOf, placeOf, stepOf, endOf, answerOf}
@@ -47,6 +48,12 @@ pub record Report : Type 0 where
   words : List Value
   paths : List PathRow
 
+-- a record of at most 64 bytes, words of one level lent with it, and some paths
+pub record Damaged : Type 0 where
+  text : List ℕ
+  words : List ℕ
+  paths : List PathRow
+
 -- a record and its verdict
 judged : String → Verdict → Report
 judged text verdict = record { text = bytes text; levels = 1; verdict = verdict; words = []; paths = [] }
@@ -80,22 +87,27 @@ holds words levels width (v ∷ vs) = eqb (getD words (address levels width (v .
 told : PathRow → Answer → Bool
 told a r = eqb (numberOf r) (a .number) && (eqb (stepOf r) (a .step) && (eqb (placeOf r) (a .place) && eqb (endOf r) (a .end)))
 
--- by the words of the definition's own index
-answers : List ℕ → ℕ → List PathRow → Bool
+answers : List ℕ → List ℕ → ℕ → List PathRow → Bool
 unfolding told
-answers text levels [] = true
-answers text levels (a ∷ rest) = told a (answerOf text (index text levels) levels (a .path)) && answers text levels rest
+answers text words levels [] = true
+answers text words levels (a ∷ rest) = told a (answerOf text words levels (a .path)) && answers text words levels rest
 
+-- by the words of the definition's own index
 right : Report → Bool
 unfolding agrees holds answers
 right r =
     agrees (faultOf (r .text)) (r .verdict)
-    && (holds (index (r .text) (r .levels)) (r .levels) (widthOf (length (r .text))) (r .words) && answers (r .text) (r .levels) (r .paths))
+    && (holds (index (r .text) (r .levels)) (r .levels) (widthOf (length (r .text))) (r .words) && answers (r .text) (index (r .text) (r .levels)) (r .levels) (r .paths))
 
 pub allRight : List Report → Bool
 unfolding right
 allRight [] = true
 allRight (r ∷ rs) = right r && allRight rs
+
+pub allAnswered : List Damaged → Bool
+unfolding answers
+allAnswered [] = true
+allAnswered (r ∷ rs) = answers (r .text) (r .words) 1 (r .paths) && allAnswered rs
 
 pub rows : List Report
 unfolding judged indexed asked
@@ -156,8 +168,50 @@ rows =
     asked 3 "{\"a\":{\"b\":[1, ]}}" (refused "$.a.b[1]" 29 3 13 ∷ refused "$.a.b.c" 23 3 10 ∷ []) ∷
     -- "for an all-blank record step 0, place 0"; 20 to 22 go first
     asked 3 " \n" (refused "$" 29 0 0 ∷ refused "$.a" 29 0 0 ∷ refused "$a" 20 0 1 ∷ refused "$[16777216]" 21 0 0 ∷ refused "$.a.a.a.a" 22 0 0 ∷ []) ∷
+    -- Two: "names compare by their characters, escapes read"; digits "in either case"
+    asked 1 "{\"\\u006eame\":1,\"\\u006E\\u0061me2\":2}" (found "$.name" 13 14 ∷ found "$.name2" 33 34 ∷ []) ∷
+    -- of names equal by characters the first is taken; no case folding
+    asked 1 "{\"\\u0061\":1,\"a\":2}" (found "$.a" 10 11 ∷ []) ∷
+    asked 1 "{\"\\u0041\":1,\"a\":2}" (found "$.a" 16 17 ∷ found "$.A" 10 11 ∷ []) ∷
+    -- every escape, and U+0000
+    asked 1 "{\"\\\"\\\\\\/\\b\\f\\n\\r\\t\":1,\"a\":2}" (found "$.a" 26 27 ∷ []) ∷
+    asked 1 "{\"\\u0000\":1,\"a\":2}" (found "$.a" 16 17 ∷ []) ∷
+    -- "an escape RFC 8259 has not": the name is read whole
+    asked 1 "{\"x\\q\":1,\"a\":2}" (refused "$.a" 30 1 1 ∷ []) ∷
+    asked 1 "{\"\\U0061\":1,\"a\":2}" (refused "$.a" 30 1 1 ∷ []) ∷
+    asked 1 "{\"\\u006\":1,\"a\":2}" (refused "$.a" 30 1 1 ∷ []) ∷
+    asked 1 "{\"\\u00g1\":1,\"a\":2}" (refused "$.a" 30 1 1 ∷ []) ∷
+    -- "Pairs of surrogate escapes make one character", at the ends of their ranges too; what lies beside the ranges is none
+    asked 1 "{\"\\ud834\\uDD1E\":1,\"a\":2}" (found "$.a" 22 23 ∷ []) ∷
+    asked 1 "{\"\\ud800\\udc00\\udbff\\udfff\":1,\"a\":2}" (found "$.a" 34 35 ∷ []) ∷
+    asked 1 "{\"\\ud7ff\\ue000\":1,\"a\":2}" (found "$.a" 22 23 ∷ []) ∷
+    -- "or an unpaired surrogate": high, low, the wrong way round, not directly behind, another escape behind, two high ones
+    asked 1 "{\"\\ud834\":1,\"a\":2}" (refused "$.a" 30 1 1 ∷ []) ∷
+    asked 1 "{\"\\udd1e\":1,\"a\":2}" (refused "$.a" 30 1 1 ∷ []) ∷
+    asked 1 "{\"\\udd1e\\ud834\":1,\"a\":2}" (refused "$.a" 30 1 1 ∷ []) ∷
+    asked 1 "{\"\\ud834x\\udd1e\":1,\"a\":2}" (refused "$.a" 30 1 1 ∷ []) ∷
+    asked 1 "{\"\\ud834\\n\":1,\"a\":2}" (refused "$.a" 30 1 1 ∷ []) ∷
+    asked 1 "{\"\\ud834\\ud834\\udd1e\":1,\"a\":2}" (refused "$.a" 30 1 1 ∷ []) ∷
+    -- "those written by escapes": raw bytes stand for themselves
+    asked 1 "{\"í\u{a0}\u{80}ÿ\u{1}\":1,\"a\":2}" (found "$.a" 15 16 ∷ []) ∷
+    -- "after 28, before 29", and after 27
+    asked 1 "{\"a\\q\":}" (refused "$.a" 30 1 1 ∷ []) ∷
+    asked 1 "{x\"\\q\":1}" (refused "$.a" 28 1 1 ∷ []) ∷
+    asked 1 "{\"\\q\"}" (refused "$.a" 27 1 1 ∷ []) ∷
+    -- "only for items a name step reaches"
+    asked 1 "{\"a\":1,\"\\q\":2}" (found "$.a" 5 6 ∷ refused "$.b" 30 1 7 ∷ []) ∷
+    asked 1 "[\"\\q\",1]" (found "$[0]" 1 5 ∷ found "$[1]" 6 7 ∷ []) ∷
+    -- told with the step and where the item begins
+    asked 2 "{\"b\":{\"c\":1, \"\\q\":2}}" (refused "$.b.d" 30 2 12 ∷ found "$.b.c" 10 11 ∷ []) ∷
     []
 
-pub reports : T (allRight rows)
-unfolding allRight rows odd count word wordAt bit is has runBefore escaped quoteBit inString maskBit plain opener closer atDepth levelBit closesNone opensOver atEnd faultFrom faultOf widthOf sizeOf row bitmapOf address cell bitIn bitOf listed laid index byteIn firstIn firstAt pastLastIn pastLast isBlank valueAt same quoted keyed itemAt firstItemIn firstItem itemNo isDigit isHead isTail decimal stepAt readFrom readPath large framed filled nameStep numberStep walkFrom walk answerOf
+-- words of one level that no job made: quotes, mask, colons and commas. "a backslash at the name's end (damaged words)", and digits cut off
+pub damagedRows : List Damaged
+damagedRows =
+    (record { text = bytes "{\"a\\\":1}"; words = 18 ∷ 0 ∷ 32 ∷ 0 ∷ []; paths = refused "$.a" 30 1 1 ∷ [] }) ∷
+    (record { text = bytes "{\"\\u0061\":1}"; words = 66 ∷ 0 ∷ 128 ∷ 0 ∷ []; paths = refused "$.a" 30 1 1 ∷ [] }) ∷
+    []
+
+pub reports : T (allRight rows && allAnswered damagedRows)
+unfolding allRight allAnswered rows damagedRows odd count word wordAt bit is has runBefore escaped quoteBit inString maskBit plain opener closer atDepth levelBit closesNone opensOver atEnd faultFrom faultOf widthOf sizeOf row bitmapOf address cell bitIn bitOf listed laid index byteIn firstIn firstAt pastLastIn pastLast isBlank hexOf fourOf unitOf shortOf spelt spellFrom spelling same matched valueAt quoted keyed itemAt firstItemIn firstItem itemNo isDigit isHead isTail decimal stepAt readFrom readPath large framed filled nameStep numberStep walkFrom walk answerOf
 reports = tt

@@ -15,7 +15,7 @@ use Rattle.index.proofs.OpenLaws.{cutBefore, good-cut, if-opened}
 use Rattle.query.specs.declared.types.Miss.{Miss}
 use Rattle.query.specs.declared.types.Miss.the-variants.{NotObject, NotArray, NoName, NoNumber}
 use Rattle.query.specs.declared.types.Cause.{Cause}
-use Rattle.query.specs.declared.types.Cause.the-variants.{NoColon, BadName, EmptyValue}
+use Rattle.query.specs.declared.types.Cause.the-variants.{NoColon, BadName, EmptyValue, BadEscape}
 use Rattle.query.specs.declared.types.Refusal.the-variants.{BadPath, Missed, Broken}
 use Rattle.query.specs.declared.types.Answer.the-variants.{Refused}
 use Rattle.query.specs.Answers.{missNumber, causeNumber, answerOf}
@@ -40,11 +40,12 @@ miss-printed NotArray k p = refl
 miss-printed NoName k p = refl
 miss-printed NoNumber k p = refl
 
--- and for 27 to 29
+-- and for 27 to 30
 pub broken-printed : (why : Cause) (k p : ℕ) → queryPrinted (Refused (Broken why k p)) ≡ placed (causeNumber why) 0
 broken-printed NoColon k p = refl
 broken-printed BadName k p = refl
 broken-printed EmptyValue k p = refl
+broken-printed BadEscape k p = refl
 
 -- ---- the cuts and words that are lent open a job
 

@@ -14,7 +14,9 @@ use Rattle.rules.proofs.LayoutLaws.{promised-bit}
 use Rattle.paths.specs.Places.{byteIn, firstIn, firstAt}
 use Rattle.paths.specs.Grammar.{Selector, name, number, Path}
 use Rattle.paths.specs.Path.{Reading, good, bad, readPath, large}
-use Rattle.query.specs.Items.{Bits, lent, solid, trimStart, trimEnd, valueAt, same, quoted, keyed, itemAt, orElse, firstItemIn, firstItem, itemNo}
+use Rattle.names.specs.Spelling.{matched}
+use Rattle.names.specs.declared.Match.{Match}
+use Rattle.query.specs.Items.{Bits, lent, solid, trimStart, trimEnd, valueAt, quoted, keyed, itemAt, orElse, firstItemIn, firstItem, itemNo}
 use Rattle.walks.specs.Ruled.{ruled}
 use Rattle.query.specs.Walk.{onFound, ofItem, framed, filled, nameStep, numberStep, stepBy, walkFrom, walk}
 use Rattle.query.specs.Answers.{afterReading, answerOf}
@@ -55,9 +57,9 @@ module _ (t u : ℕ → Bool) (n : ℕ) (h : (i : ℕ) → i < n → t i ≡ u i
       go false e = refl
       go true e = let m = ltb-true (p + 1) q e in rw (h p (omega arith), first-agree (p + 1) q (omega arith) l)
 
-  keyed-agree : (byte : ℕ → ℕ) (m : List ℕ) (a d e : ℕ) → a ≤ d → d ≤ n → keyed byte t m a d e ≡ keyed byte u m a d e
+  keyed-agree : (byte : ℕ → ℕ) (test : List ℕ → Match) (a d e : ℕ) → a ≤ d → d ≤ n → keyed byte t test a d e ≡ keyed byte u test a d e
   unfolding keyed
-  keyed-agree byte m a d e l k =
+  keyed-agree byte test a d e l k =
       rw (quoted-agree (trimStart byte a d) (trimEnd byte a d) (omega (arith, last-bounds (solid byte) (trimStart byte a d) d (first-le (solid byte) a d l))))
 
 -- ---- items
@@ -97,19 +99,19 @@ when true z f = f refl
 when false z f = refl
 
 module _ (byte : ℕ → ℕ) (n l : ℕ) (b c : Bits) (g : Agree n l b c) where
-  item-agree : (k : ℕ) (m : List ℕ) → 1 ≤ k → k ≤ l → (a e : ℕ) → a ≤ e → e ≤ n → itemAt byte b k m a e ≡ itemAt byte c k m a e
+  item-agree : (k : ℕ) (test : List ℕ → Match) → 1 ≤ k → k ≤ l → (a e : ℕ) → a ≤ e → e ≤ n → itemAt byte b k test a e ≡ itemAt byte c k test a e
   unfolding itemAt
-  item-agree k m o p a e h j =
+  item-agree k test o p a e h j =
       rw (
         first-agree (b .colon k) (c .colon k) n (λ i z. g .colons k i o p z) a e h j,
-        keyed-agree (b .quote) (c .quote) n (g .quotes) byte m a (firstAt (c .colon k) a e) e (first-ge (c .colon k) a e h) (omega (arith, first-le (c .colon k) a e h)),
+        keyed-agree (b .quote) (c .quote) n (g .quotes) byte test a (firstAt (c .colon k) a e) e (first-ge (c .colon k) a e h) (omega (arith, first-le (c .colon k) a e h)),
       )
 
   step-agree : (k : ℕ) (s : Selector) (a e : ℕ) → 1 ≤ k → k ≤ l → e ≤ n → stepBy byte b k s a e ≡ stepBy byte c k s a e
   unfolding nameStep numberStep firstItem
   step-agree k (name m) a e o p h =
       when (framed byte 123 125 a e) (Refused (Missed NotObject k a)) (λ q. let f = framed-long byte 123 125 a e q in
-      when (filled byte a e) (Refused (Missed NoName k a)) (λ _. ap (ofItem (Missed NoName k a) k) (items-agree (itemAt byte b k m) (itemAt byte c k m) (b .comma k) (c .comma k) n (λ i z. g .commas k i o p z) (λ a e i j. item-agree k m o p a e i j) (suc (e - 1 - (a + 1))) (a + 1) (e - 1) (omega arith) (omega arith))))
+      when (filled byte a e) (Refused (Missed NoName k a)) (λ _. ap (ofItem (Missed NoName k a) k) (items-agree (itemAt byte b k (matched m)) (itemAt byte c k (matched m)) (b .comma k) (c .comma k) n (λ i z. g .commas k i o p z) (λ a e i j. item-agree k (matched m) o p a e i j) (suc (e - 1 - (a + 1))) (a + 1) (e - 1) (omega arith) (omega arith))))
   step-agree k (number m) a e o p h =
       when (framed byte 91 93 a e) (Refused (Missed NotArray k a)) (λ q. let f = framed-long byte 91 93 a e q in
       when (filled byte a e) (Refused (Missed NoNumber k a)) (λ _. ap (ofItem (Missed NoNumber k a) k) (itemNo-agree byte (b .comma k) (c .comma k) n (λ i z. g .commas k i o p z) m (a + 1) (e - 1) (omega arith) (omega arith))))

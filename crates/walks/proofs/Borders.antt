@@ -10,6 +10,7 @@ use native.Mathlib.Nat.{eq-or-lt-of-le}
 use native.Mathlib.Decide.{decLt}
 use Rattle.rules.proofs.Booleans.{impossible}
 use Rattle.paths.specs.Places.{firstAt}
+use Rattle.names.specs.Spelling.{matched}
 use Rattle.query.specs.Items.{Bits, itemAt, firstItemIn, firstItem}
 use Rattle.walks.specs.Members.{Borders, AllOther, FirstIs, Member}
 use Rattle.query.specs.declared.types.Cause.{Cause}
@@ -190,9 +191,9 @@ module _ (item : ℕ → ℕ → Item) (is : ℕ → ℕ → Item → Type 0) (l
 
 module _ (byte : ℕ → ℕ) (bits : Bits) (k : ℕ) (n : List ℕ) (a e : ℕ) (h : a ≤ e) where
   -- "no such name": every item is whole and has another
-  pub no-such-name : (firstItem (itemAt byte bits k n) (bits .comma k) a e ≡ Other) ↔ AllOther (Member byte bits k n) (bits .comma k) a e
-  no-such-name = none-taken (itemAt byte bits k n) (Member byte bits k n) (item-exactly byte bits k n) (bits .comma k) a e h
+  pub no-such-name : (firstItem (itemAt byte bits k (matched n)) (bits .comma k) a e ≡ Other) ↔ AllOther (Member byte bits k n) (bits .comma k) a e
+  no-such-name = none-taken (itemAt byte bits k (matched n)) (Member byte bits k n) (item-exactly byte bits k n) (bits .comma k) a e h
 
   -- "The walk stops at the first broken item .. or the first item whose name has the path's bytes"
-  pub first-stops : (r : Item) → (r ≡ Other → ⊥) → (firstItem (itemAt byte bits k n) (bits .comma k) a e ≡ r) ↔ FirstIs (Member byte bits k n) (bits .comma k) a e r
-  first-stops = first-taken (itemAt byte bits k n) (Member byte bits k n) (item-exactly byte bits k n) (bits .comma k) a e h
+  pub first-stops : (r : Item) → (r ≡ Other → ⊥) → (firstItem (itemAt byte bits k (matched n)) (bits .comma k) a e ≡ r) ↔ FirstIs (Member byte bits k n) (bits .comma k) a e r
+  first-stops = first-taken (itemAt byte bits k (matched n)) (Member byte bits k n) (item-exactly byte bits k n) (bits .comma k) a e h

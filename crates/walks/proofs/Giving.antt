@@ -9,6 +9,7 @@ use native.Mathlib.Omega.{arith}
 use lib.ListN.{length}
 use Rattle.paths.specs.Places.{byteIn}
 use Rattle.paths.specs.Grammar.{Selector, name, number}
+use Rattle.names.specs.Spelling.{matched}
 use Rattle.query.specs.Items.{Bits, itemAt, firstItem}
 use Rattle.query.specs.Walk.{onFound, ofItem, framed, filled, nameStep, numberStep, stepBy, walkFrom, walk}
 use Rattle.walks.specs.Members.{OnlyBlanks, Framed}
@@ -17,7 +18,7 @@ use Rattle.walks.specs.Conditions.{StepGives, not-object, no-member, no-
 use Rattle.query.specs.declared.items.Item.{Item}
 use Rattle.query.specs.declared.items.Item.the-variants as Items
 use Rattle.query.specs.declared.types.Cause.{Cause}
-use Rattle.query.specs.declared.types.Cause.the-variants.{NoColon, BadName, EmptyValue}
+use Rattle.query.specs.declared.types.Cause.the-variants.{NoColon, BadName, EmptyValue, BadEscape}
 use Rattle.query.specs.declared.types.Miss.{Miss}
 use Rattle.query.specs.declared.types.Miss.the-variants.{NotObject, NotArray, NoName, NoNumber}
 use Rattle.query.specs.declared.types.Refusal.{Refusal}
@@ -37,10 +38,11 @@ miss-number NotArray = (omega arith, omega arith)
 miss-number NoName = (omega arith, omega arith)
 miss-number NoNumber = (omega arith, omega arith)
 
-pub cause-number : (why : Cause) → (27 ≤ causeNumber why) × (causeNumber why ≤ 29)
+pub cause-number : (why : Cause) → (27 ≤ causeNumber why) × (causeNumber why ≤ 30)
 cause-number NoColon = (omega arith, omega arith)
 cause-number BadName = (omega arith, omega arith)
 cause-number EmptyValue = (omega arith, omega arith)
+cause-number BadEscape = (omega arith, omega arith)
 
 module _ (byte : ℕ → ℕ) (bits : Bits) where
   -- ---- a step
@@ -65,11 +67,11 @@ module _ (byte : ℕ → ℕ) (bits : Bits) where
       let P = StepGives byte bits k (name n) a e in
       pick-ind P (framed byte 123 125 a e) _ _
       (λ f. let w = framed-exactly byte 123 125 a e .0 f in
-      pick-ind P (filled byte a e) _ _ (λ g. go w (filled-not 123 125 a e w g) (firstItem (itemAt byte bits k n) (bits .comma k) (a + 1) (e - 1)) refl)
+      pick-ind P (filled byte a e) _ _ (λ g. go w (filled-not 123 125 a e w g) (firstItem (itemAt byte bits k (matched n)) (bits .comma k) (a + 1) (e - 1)) refl)
       (λ g. no-member w (filled-exactly byte a e (w .long) .0 g)))
       (λ f. not-object (unframed 123 125 a e f))
     where
-      go : Framed byte 123 125 a e → (OnlyBlanks byte (a + 1) (e - 1) → ⊥) → (it : Item) → firstItem (itemAt byte bits k n) (bits .comma k) (a + 1) (e - 1) ≡ it
+      go : Framed byte 123 125 a e → (OnlyBlanks byte (a + 1) (e - 1) → ⊥) → (it : Item) → firstItem (itemAt byte bits k (matched n)) (bits .comma k) (a + 1) (e - 1) ≡ it
           → StepGives byte bits k (name n) a e (ofItem (Missed NoName k a) k it)
       go w u (Items.Found p q) h = member w u (first-stops byte bits k n (a + 1) (e - 1) (omega arith) (Items.Found p q) found-stops .0 h)
       go w u Items.Other h = no-name w u (no-such-name byte bits k n (a + 1) (e - 1) (omega arith) .0 h)
@@ -93,7 +95,7 @@ module _ (byte : ℕ → ℕ) (bits : Bits) where
 
   -- past the tests of a value's ends
   module _ (k a e : ℕ) (u : OnlyBlanks byte (a + 1) (e - 1) → ⊥) where
-    name-past : (n : List ℕ) {it : Item} → Framed byte 123 125 a e → (a + 1 ≤ e - 1 → firstItem (itemAt byte bits k n) (bits .comma k) (a + 1) (e - 1) ≡ it)
+    name-past : (n : List ℕ) {it : Item} → Framed byte 123 125 a e → (a + 1 ≤ e - 1 → firstItem (itemAt byte bits k (matched n)) (bits .comma k) (a + 1) (e - 1) ≡ it)
         → nameStep byte bits k n a e ≡ ofItem (Missed NoName k a) k it
     unfolding nameStep
     name-past n w h = let l = w .long in rw (framed-exactly byte 123 125 a e .1 w, filled-so 123 125 a e w u, h (omega arith))
@@ -121,7 +123,7 @@ module _ (byte : ℕ → ℕ) (bits : Bits) where
   step-is k (name n) a e = name-is k n a e
   step-is k (number m) a e = number-is k m a e
 
-  -- 23 to 29 of a step, and its part
+  -- 23 to 30 of a step, and its part
   pub step-gives : (k : ℕ) (s : Selector) (a e : ℕ) (r : Answer) → (stepBy byte bits k s a e ≡ r) ↔ StepGives byte bits k s a e r
   step-gives k s a e r = (λ q. subst (StepGives byte bits k s a e) q (step-is k s a e), gives-step)
 
@@ -175,7 +177,7 @@ module _ (text : List ℕ) (bits : Bits) (ss : List Selector) where
   gives-walk (blank o) = rw (value-at (byteIn text) 0 (length text) (omega arith) (Values.blank o))
   gives-walk (within v g) = rw (value-at (byteIn text) 0 (length text) (omega arith) (Values.part v)) (gives-from (byteIn text) bits g)
 
-  -- 23 to 29 of a walk, and its part
+  -- 23 to 30 of a walk, and its part
   pub walk-gives : (r : Answer) → (walk text bits ss ≡ r) ↔ WalkGives text bits ss r
   walk-gives r = (λ q. subst (WalkGives text bits ss) q walk-is, gives-walk)
 

@@ -10,15 +10,19 @@ use lib.Dec.{ltb, eqb}
 use borrow.Author.Tests.{ltb-true, ltb-false, lt-ltb, le-ltb, eqb-true, eq-eqb}
 use Rattle.rules.specs.Word.{pick}
 use Rattle.paths.specs.Places.{between, firstAt, pastLast}
-use Rattle.query.specs.Items.{Bits, solid, trimStart, trimEnd, valueAt, same, quoted, keyed, itemAt}
+use Rattle.names.specs.Spelling.{matched, onMatch}
+use Rattle.names.specs.Spells.{Spells, Compares}
+use Rattle.names.specs.declared.Match.{Match}
+use Rattle.names.specs.declared.Match.the-variants as Matches
+use Rattle.query.specs.Items.{Bits, solid, trimStart, trimEnd, valueAt, quoted, keyed, itemAt}
 use Rattle.query.specs.Walk.{framed, filled}
-use Rattle.walks.specs.Members.{FirstPlace, OnlyBlanks, Trimmed, Framed, Quoted, Whole, Member, no-colon, bad-name, other, empty, found}
-use Rattle.query.specs.declared.types.Cause.the-variants.{EmptyValue}
+use Rattle.walks.specs.Members.{FirstPlace, OnlyBlanks, Trimmed, Framed, Quoted, Whole, Member, no-colon, bad-name, bad-escape, other, empty, found}
+use Rattle.query.specs.declared.types.Cause.the-variants.{EmptyValue, BadEscape}
 use Rattle.query.specs.declared.items.Item.{Item}
 use Rattle.query.specs.declared.items.Item.the-variants.{Found, Other, Broken}
 use Rattle.paths.proofs.PlaceLaws.{pick-ind, first-ge, first-le, first-hit, first-miss, first-at, first-all, last-none, last-bounds, last-hit, last-miss, last-at}
 use Rattle.paths.proofs.PathLaws.{both-true}
-use Rattle.query.proofs.Comparing.{same-exactly}
+use Rattle.names.proofs.Spelled.{matched-exactly}
 
 -- ---- a value
 
@@ -117,11 +121,16 @@ module _ (byte : ℕ → ℕ) (bits : Bits) (k : ℕ) (n : List ℕ) (s f : ℕ)
   first-colon : s ≤ f → firstAt (bits .colon k) s f < f → FirstPlace (bits .colon k) s f (firstAt (bits .colon k) s f)
   first-colon h l = record { from = first-ge (bits .colon k) s f h; inside = l; holds = first-hit (bits .colon k) s f h l; none = first-miss (bits .colon k) s f h }
 
-  named : {d : ℕ} {r : Item} → Whole byte bits k s f d n → Value byte s (d + 1) f r → Member byte bits k n s f r
-  named w (part v) = found w v
-  named w (blank o) = empty w o
+  named : {d : ℕ} {m : List ℕ} {r : Item} → Whole byte bits k s f d m → Spells m n → Value byte s (d + 1) f r → Member byte bits k n s f r
+  named w e (part v) = found w e v
+  named w e (blank o) = empty w e o
 
-  keyed-is : {d : ℕ} → FirstPlace (bits .colon k) s f d → Member byte bits k n s f (keyed byte (bits .quote) n s d f)
+  by-name : {d : ℕ} {m : List ℕ} {r : Match} → Whole byte bits k s f d m → Compares n m r → Member byte bits k n s f (onMatch r (valueAt byte s (d + 1) f) Other (Broken BadEscape s))
+  by-name {d} w (Compares.same e) = named w e (value-is byte (d + 1) f (omega (arith, w .colon .inside)) s)
+  by-name w (Compares.different e h) = other w e h
+  by-name w (Compares.bad-escape h) = bad-escape w h
+
+  keyed-is : {d : ℕ} → FirstPlace (bits .colon k) s f d → Member byte bits k n s f (keyed byte (bits .quote) (matched n) s d f)
   unfolding keyed
   keyed-is {d} c =
       let M = Member byte bits k n s f in
@@ -132,36 +141,35 @@ module _ (byte : ℕ → ℕ) (bits : Bits) (k : ℕ) (n : List ℕ) (s f : ℕ)
       (λ y.
       let z = quoted-exactly (bits .quote) p q .0 y in
       let w : Whole byte bits k s f d m = record { from = p; to = q; colon = c; front = trimmed byte s d (c .from) (omega (arith, z .long)); quoted = z; name = refl } in
-      pick-ind M (same m n) _ _
-      (λ e. named (subst (Whole byte bits k s f d) (same-exactly m n .0 e) w) (value-is byte (d + 1) f (omega (arith, c .inside)) s))
-      (λ e. other w (λ g. true≢false (sym (same-exactly m n .1 g) ∙ e))))
+      by-name w (matched-exactly n m (matched n m) .0 refl))
       (λ y. bad-name c (λ p′ q′ t z.
       true≢false (sym (ap₂ (quoted (bits .quote)) (trim-start byte s d (c .from) t) (trim-end byte s d (c .from) t) ∙ quoted-exactly (bits .quote) p′ q′ .1 z) ∙ y)))
 
-  item-is : s ≤ f → Member byte bits k n s f (itemAt byte bits k n s f)
+  item-is : s ≤ f → Member byte bits k n s f (itemAt byte bits k (matched n) s f)
   unfolding itemAt
   item-is h =
       let d = firstAt (bits .colon k) s f in
       pick-ind (Member byte bits k n s f) (ltb d f) _ _ (λ l. keyed-is (first-colon h (ltb-true d f l)))
       (λ l. no-colon (λ i g j. first-miss (bits .colon k) s f h i g (omega (arith, ltb-false d f l))))
 
-  at-colon : {d : ℕ} → FirstPlace (bits .colon k) s f d → itemAt byte bits k n s f ≡ keyed byte (bits .quote) n s d f
+  at-colon : {d : ℕ} → FirstPlace (bits .colon k) s f d → itemAt byte bits k (matched n) s f ≡ keyed byte (bits .quote) (matched n) s d f
   unfolding itemAt
   at-colon {d} c = rw (first-at (bits .colon k) s d f (c .from) (c .inside) (c .none) (c .holds), lt-ltb d f (c .inside))
 
-  at-name : {d : ℕ} {m : List ℕ} → Whole byte bits k s f d m → itemAt byte bits k n s f ≡ pick (same m n) (valueAt byte s (d + 1) f) Other
+  at-name : {d : ℕ} {m : List ℕ} → Whole byte bits k s f d m → itemAt byte bits k (matched n) s f ≡ onMatch (matched n m) (valueAt byte s (d + 1) f) Other (Broken BadEscape s)
   unfolding keyed
   at-name {d} w = at-colon (w .colon)
       ∙ rw (trim-end byte s d (w .colon .from) (w .front), trim-start byte s d (w .colon .from) (w .front), quoted-exactly (bits .quote) (w .from) (w .to) .1 (w .quoted), ← (w .name))
 
-  item-at : {r : Item} → s ≤ f → Member byte bits k n s f r → itemAt byte bits k n s f ≡ r
+  item-at : {r : Item} → s ≤ f → Member byte bits k n s f r → itemAt byte bits k (matched n) s f ≡ r
   unfolding itemAt keyed
   item-at h (no-colon o) = rw (first-all (bits .colon k) s f h o, le-ltb f f (omega arith))
   item-at h (bad-name {d} c o) = at-colon c ∙ rw (not-eq-not {a = quoted (bits .quote) (trimStart byte s d) (trimEnd byte s d)} {b = false} .0 (λ y. let z = quoted-exactly (bits .quote) _ _ .0 y in o _ _ (trimmed byte s d (c .from) (omega (arith, z .long))) z))
-  item-at h (other {d} {m} w g) = at-name w ∙ rw (not-eq-not {a = same m n} {b = false} .0 (λ e. g (same-exactly m n .0 e)))
-  item-at h (empty {d} w o) = at-name w ∙ rw (same-exactly n n .1 refl) (value-at byte (d + 1) f (omega (arith, w .colon .inside)) (blank o))
-  item-at h (found {d} w v) = at-name w ∙ rw (same-exactly n n .1 refl) (value-at byte (d + 1) f (omega (arith, w .colon .inside)) (part v))
+  item-at h (bad-escape w g) = at-name w ∙ rw (matched-exactly n _ Matches.BadEscape .1 (Compares.bad-escape g))
+  item-at h (other w e g) = at-name w ∙ rw (matched-exactly n _ Matches.Different .1 (Compares.different e g))
+  item-at h (empty {d} w e o) = at-name w ∙ rw (matched-exactly n _ Matches.Same .1 (Compares.same e)) (value-at byte (d + 1) f (omega (arith, w .colon .inside)) (blank o))
+  item-at h (found {d} w e v) = at-name w ∙ rw (matched-exactly n _ Matches.Same .1 (Compares.same e)) (value-at byte (d + 1) f (omega (arith, w .colon .inside)) (part v))
 
   -- what an item is to a name step
-  pub item-exactly : (r : Item) → s ≤ f → (itemAt byte bits k n s f ≡ r) ↔ Member byte bits k n s f r
+  pub item-exactly : (r : Item) → s ≤ f → (itemAt byte bits k (matched n) s f ≡ r) ↔ Member byte bits k n s f r
   item-exactly r h = (λ e. subst (Member byte bits k n s f) e (item-is h), item-at h)

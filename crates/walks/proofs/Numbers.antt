@@ -20,7 +20,7 @@ use Rattle.walks.specs.Conditions.{Sized, Levelled, Lendable, Brief, Wal
 use Rattle.query.specs.declared.types.Miss.{Miss}
 use Rattle.query.specs.declared.types.Miss.the-variants.{NotObject, NotArray, NoName, NoNumber}
 use Rattle.query.specs.declared.types.Cause.{Cause}
-use Rattle.query.specs.declared.types.Cause.the-variants.{NoColon, BadName, EmptyValue}
+use Rattle.query.specs.declared.types.Cause.the-variants.{NoColon, BadName, EmptyValue, BadEscape}
 use Rattle.query.specs.declared.types.Refusal.{Refusal}
 use Rattle.query.specs.declared.types.Refusal.the-variants.{EmptyRecord, LongRecord, BadLevels, BadBuffer, BadPath, TooLarge, TooDeep, Missed, Broken}
 use Rattle.query.specs.declared.types.Answer.{Answer}
@@ -122,7 +122,7 @@ module _ (text words : List ℕ) (levels : ℕ) (path : List ℕ) where
       (pick (eqb n 24) (Misses text words levels path NotArray)
       (pick (eqb n 25) (Misses text words levels path NoName)
       (pick (eqb n 26) (Misses text words levels path NoNumber)
-      (pick (eqb n 27) (Breaks text words levels path NoColon) (pick (eqb n 28) (Breaks text words levels path BadName) (Breaks text words levels path EmptyValue))))))))))))))
+      (pick (eqb n 27) (Breaks text words levels path NoColon) (pick (eqb n 28) (Breaks text words levels path BadName) (pick (eqb n 29) (Breaks text words levels path EmptyValue) (Breaks text words levels path BadEscape)))))))))))))))
 
   walks : {ss : List Selector} {r : Answer} → Walkable text words levels path ss → WalkGives text (lent words levels (widthOf (length text))) ss r → Walks text words levels path r
   walks {ss} w g = record { selectors = ss; walkable = w; gives = g }
@@ -146,6 +146,7 @@ module _ (text words : List ℕ) (levels : ℕ) (path : List ℕ) where
       halted (Broken NoColon k p) g l = (k, p, walks w g)
       halted (Broken BadName k p) g l = (k, p, walks w g)
       halted (Broken EmptyValue k p) g l = (k, p, walks w g)
+      halted (Broken BadEscape k p) g l = (k, p, walks w g)
 
   numbered : {r : Answer} → Given text words levels path r → Condition (numberOf r)
   numbered (empty e) = e
@@ -228,6 +229,10 @@ module _ (text words : List ℕ) (levels : ℕ) (path : List ℕ) where
   pub number-29 : (numberOf (answerOf text words levels path) ≡ 29) ↔ Breaks text words levels path EmptyValue
   number-29 = (λ e. because e, λ h. walks-so (h .2))
 
+  -- "a name with an escape RFC 8259 has not, or an unpaired surrogate"
+  pub number-30 : (numberOf (answerOf text words levels path) ≡ 30) ↔ Breaks text words levels path BadEscape
+  number-30 = (λ e. because e, λ h. walks-so (h .2))
+
   -- ---- with step and place
 
   walks-say : {why : Refusal} → Walks text words levels path (Refused why) → Says text words levels path (refusalNumber why) (refusalStep why) (refusalPlace why)
@@ -254,3 +259,4 @@ module _ (text words : List ℕ) (levels : ℕ) (path : List ℕ) where
       some NoColon e = because e
       some BadName e = because e
       some EmptyValue e = because e
+      some BadEscape e = because e

@@ -1,4 +1,4 @@
--- What 23 to 29 tell beside their number: the step that stops, and where its value begins or its broken item does. By the steps, one after another: the
+-- What 23 to 30 tell beside their number: the step that stops, and where its value begins or its broken item does. By the steps, one after another: the
 -- steps before the one that stops have found its value.
 use Prim.Native.Nat.{ℕ, suc, _+_, _-_, _≤_, _<_}
 use mathlib.Core.Path.{_≡_, refl, sym, subst}
@@ -11,7 +11,7 @@ use Rattle.paths.specs.Places.{byteIn}
 use Rattle.paths.specs.Grammar.{Selector}
 use Rattle.query.specs.Items.{Bits, lent}
 use Rattle.query.specs.Answers.{refusalNumber, refusalPlace, refusalStep, numberOf, placeOf, stepOf, answerOf}
-use Rattle.walks.specs.Members.{Bracketed, Borders, Member, no-colon, bad-name}
+use Rattle.walks.specs.Members.{Bracketed, Borders, Member, no-colon, bad-name, bad-escape}
 use Rattle.walks.specs.Members as Members
 use Rattle.walks.specs.Conditions.{StepGives, not-object, no-member, no-name, broken-member, not-array, no-element, no-number, broken-element, StepsGive, done, here, later, WalkGives, blank, within, Given, empty, long, levels-out, other-buffer, long-path, no-path, large-number, deep, walked, Tells, miss, broken, all-blank, WalkTells}
 use Rattle.query.specs.declared.items.Item.the-variants as Items
@@ -30,7 +30,8 @@ use Rattle.walks.proofs.Numbers.{answer-given}
 begins : {byte : ℕ → ℕ} {bits : Bits} {k : ℕ} {n : List ℕ} {s f p : ℕ} {why : Cause} → Member byte bits k n s f (Items.Broken why p) → p ≡ s
 begins (no-colon o) = refl
 begins (bad-name c o) = refl
-begins (Members.empty w o) = refl
+begins (bad-escape w o) = refl
+begins (Members.empty w e o) = refl
 
 module _ (byte : ℕ → ℕ) (bits : Bits) where
   -- as `Tells`, of the steps from number k on, in the value from a to e

@@ -120,7 +120,7 @@ abbrev pub Says : List ℕ → List ℕ → ℕ → List ℕ → (number step pl
 Says text words levels path n k p =
     (numberOf (answerOf text words levels path) ≡ n) × (stepOf (answerOf text words levels path) ≡ k) × (placeOf (answerOf text words levels path) ≡ p)
 
--- ---- what 23 to 29 tell beside their number (proofs/Telling.antt: of every query)
+-- ---- what 23 to 30 tell beside their number (proofs/Telling.antt: of every query)
 
 -- "the path step, from 1, and a place in the record". The steps before it find a value, from a to e
 pub data Tells (text : List ℕ) (bits : Bits) (ss : List Selector) : (number step place : ℕ) → Type 0 where

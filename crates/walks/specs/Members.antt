@@ -6,8 +6,9 @@ use mathlib.Core.List.{List}
 use mathlib.Core.Logic.{_⊎_}
 use Rattle.rules.specs.Word.{count}
 use Rattle.paths.specs.Places.{between}
+use Rattle.names.specs.Spells.{Spells}
 use Rattle.query.specs.Items.{Bits, solid}
-use Rattle.query.specs.declared.types.Cause.the-variants.{NoColon, BadName, EmptyValue}
+use Rattle.query.specs.declared.types.Cause.the-variants.{NoColon, BadName, EmptyValue, BadEscape}
 use Rattle.query.specs.declared.items.Item.{Item}
 use Rattle.query.specs.declared.items.Item.the-variants.{Found, Other, Broken}
 
@@ -83,7 +84,7 @@ pub record Quoted (quote : ℕ → Bool) (p q : ℕ) : Type 0 where
   pub inner : Nowhere quote (p + 1) (q - 1)
   pub closes : quote (q - 1) ≡ true
 
--- an item from s to f that is whole: its first colon of level k is at d, and what precedes that, without end blanks, is quoted; m is its name
+-- an item from s to f that is whole: its first colon of level k is at d, and what precedes that, without end blanks, is quoted; m are the bytes of its name
 pub record Whole (byte : ℕ → ℕ) (bits : Bits) (k s f d : ℕ) (m : List ℕ) : Type 0 where
   pub from : ℕ
   pub to : ℕ
@@ -98,7 +99,10 @@ pub data Member (byte : ℕ → ℕ) (bits : Bits) (k : ℕ) (n : List ℕ) (s f
   no-colon : Nowhere (bits .colon k) s f → Member byte bits k n s f (Broken NoColon s)
   -- "or if what precedes the first such colon, without end blanks, is not" quoted
   bad-name : {d : ℕ} → FirstPlace (bits .colon k) s f d → ((p q : ℕ) → Trimmed byte s d p q → Quoted (bits .quote) p q → ⊥) → Member byte bits k n s f (Broken BadName s)
-  other : {d : ℕ} {m : List ℕ} → Whole byte bits k s f d m → (m ≡ n → ⊥) → Member byte bits k n s f Other
-  -- "whose name has the path's bytes .. The value is what follows that colon, without end blanks"; empty is 29
-  empty : {d : ℕ} → Whole byte bits k s f d n → OnlyBlanks byte (d + 1) f → Member byte bits k n s f (Broken EmptyValue s)
-  found : {d p q : ℕ} → Whole byte bits k s f d n → Trimmed byte (d + 1) f p q → Member byte bits k n s f (Found p q)
+  -- "a name with an escape RFC 8259 has not, or an unpaired surrogate": it spells nothing
+  bad-escape : {d : ℕ} {m : List ℕ} → Whole byte bits k s f d m → ((us : List ℕ) → Spells m us → ⊥) → Member byte bits k n s f (Broken BadEscape s)
+  -- "names compare by their characters, escapes read"
+  other : {d : ℕ} {m us : List ℕ} → Whole byte bits k s f d m → Spells m us → (us ≡ n → ⊥) → Member byte bits k n s f Other
+  -- "The value is what follows that colon, without end blanks"; empty is 29
+  empty : {d : ℕ} {m : List ℕ} → Whole byte bits k s f d m → Spells m n → OnlyBlanks byte (d + 1) f → Member byte bits k n s f (Broken EmptyValue s)
+  found : {d p q : ℕ} {m : List ℕ} → Whole byte bits k s f d m → Spells m n → Trimmed byte (d + 1) f p q → Member byte bits k n s f (Found p q)

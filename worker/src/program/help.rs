@@ -19,9 +19,10 @@ usage: wararish ask [--where] [--json] PATH.. FILE
 
 Prints the part of the record that each path leads to, a line each. The line of a path that
 finds nothing is empty, and a message tells why. PATH is $, then steps .name or [number]:
-'$.frames[7].tiles[0].rate'. FILE - is standard input.
+'$.frames[7].tiles[0].rate'. Names are compared by their characters, with their escapes read:
+.name is also \"\\u006eame\". FILE - is standard input.
 
-  --where    number, start, end and step instead, end not included; number 0 is found. 23 to 29
+  --where    number, start, end and step instead, end not included; number 0 is found. 23 to 30
              tell the step of the path, from 1, and as start and end a place in the record: where
              the value begins that the step works in, or the broken item. 20 tells its place in
              the path. A step of 0 is none
@@ -29,7 +30,7 @@ finds nothing is empty, and a message tells why. PATH is $, then steps .name or 
   --         what follows is no option
 
 Exit status: 0 all found; 1 a path finds nothing (23 to 26); 2 the record has a fault (13 to 16)
-or a broken item (27 to 29), is empty (1) or too long (2); 64 wrong use, and paths that are none
+or a broken item (27 to 30), is empty (1) or too long (2); 64 wrong use, and paths that are none
 (20 to 22); 66 the file cannot be read. Of several, the greatest.
 
   printf '{\"a\":1,\"b\":[2,30]}' | wararish ask '$.b[1]' -

@@ -8,6 +8,7 @@ use types.Run.{OneOf, miss}
 use denote.Enum.Declared.{tagOf}
 use Rattle.rules.specs.Layout.{bitIn, commas}
 use Rattle.paths.specs.Places.{byteIn, between}
+use Rattle.names.specs.Spelling.{matched}
 use Rattle.query.specs.Items.{lent, itemAt}
 use Rattle.query.specs.declared.items.Item.{Item}
 use Rattle.query.proofs.items.Item.{the-type}
@@ -20,13 +21,13 @@ use Rattle.query.proofs.items.find_name.Statement.{statement}
 use Rattle.query.proofs.items.find_name.Tie as tie
 
 abbrev Inv-loop : tie.InvT-loop
-Inv-loop text words s k path b f lo hi start₀ at₀ w x₀ start at x = Walking (itemAt (byteIn text) (lent words (s .levels) (s .width)) k (between (byteIn path) b f)) (bitIn words (s .levels) (s .width) (commas k)) lo hi start at w x
+Inv-loop text words s k path b f lo hi start₀ at₀ w x₀ start at x = Walking (itemAt (byteIn text) (lent words (s .levels) (s .width)) k (matched (between (byteIn path) b f))) (bitIn words (s .levels) (s .width) (commas k)) lo hi start at w x
 
 abbrev μ-loop : tie.MeasureT-loop
 μ-loop text words s k path b f lo hi start₀ at₀ w x₀ start at x = hi - at
 
 abbrev Inv-walk : tie.InvT-walk
-Inv-walk text words s k path b f lo hi start₀ at₀ w₀ x₀ start at w x = Walking (itemAt (byteIn text) (lent words (s .levels) (s .width)) k (between (byteIn path) b f)) (bitIn words (s .levels) (s .width) (commas k)) lo hi start at w x
+Inv-walk text words s k path b f lo hi start₀ at₀ w₀ x₀ start at w x = Walking (itemAt (byteIn text) (lent words (s .levels) (s .width)) k (matched (between (byteIn path) b f))) (bitIn words (s .levels) (s .width) (commas k)) lo hi start at w x
 
 abbrev μ-walk : tie.MeasureT-walk
 μ-walk text words s k path b f lo hi start₀ at₀ w₀ x₀ start at w x = hi - w

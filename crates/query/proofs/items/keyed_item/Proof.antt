@@ -38,14 +38,20 @@ returns : tie.Need-returns
 unfolding keyed
 returns c = rw (← c .before .before .before .skip-blanks .ensures, ← c .before .before .drop-blanks .ensures, ← c .before .is-quoted .ensures, not-true (c .before .is-quoted .result) (c .if1 .taken))
 
-add-same-name : tie.Need-add-same-name
-add-same-name c = let f = small c in omega arith
+add-match-name : tie.Need-add-match-name
+add-match-name c = let f = small c in omega arith
 
-sub-same-name : tie.Need-sub-same-name
-sub-same-name c = let f = small c in omega arith
+sub-match-name : tie.Need-sub-match-name
+sub-match-name c = let f = small c in omega arith
 
-same-name-requires : tie.Need-same-name-requires
-same-name-requires c κs = let f = small c in (omega arith, omega arith, omega arith, omega arith)
+match-name-requires : tie.Need-match-name-requires
+match-name-requires c κs =
+    let f = small c in
+    let h = c .before .before .before .before .before .before .before .pre .0 in
+    (omega arith, omega arith, omega (arith, h .inside, h .width), omega arith, omega arith)
+
+enum-told : tie.Need-enum-told
+enum-told c = search needs
 
 add-value-at : tie.Need-add-value-at
 add-value-at c = omega arith
@@ -53,13 +59,23 @@ add-value-at c = omega arith
 value-at-requires : tie.Need-value-at-requires
 value-at-requires c κs = search needs
 
+enum-told-2 : tie.Need-enum-told-2
+enum-told-2 c = search needs
+
+enum-told-3 : tie.Need-enum-told-3
+enum-told-3 c = search needs
+
 returns-2 : tie.Need-returns-2
 unfolding keyed
-returns-2 c = rw (← c .before .before .before .before .before .before .skip-blanks .ensures, ← c .before .before .before .before .before .drop-blanks .ensures, ← c .before .before .before .before .is-quoted .ensures, not-false (c .before .before .before .before .is-quoted .result) (c .before .before .before .if1 .left), ← c .before .before .same-name .ensures, c .before .if2 .taken) (c .value-at .ensures)
+returns-2 c = rw (← c .before .before .before .before .before .before .before .skip-blanks .ensures, ← c .before .before .before .before .before .before .drop-blanks .ensures, ← c .before .before .before .before .before .is-quoted .ensures, not-false (c .before .before .before .before .before .is-quoted .result) (c .before .before .before .before .if1 .left), ← c .before .before .before .match-name .ensures, c .before .enum-told .given .1) (c .value-at .ensures)
 
 returns-3 : tie.Need-returns-3
 unfolding keyed
-returns-3 c = rw (← c .before .before .before .before .before .skip-blanks .ensures, ← c .before .before .before .before .drop-blanks .ensures, ← c .before .before .before .is-quoted .ensures, not-false (c .before .before .before .is-quoted .result) (c .before .before .if1 .left), ← c .before .same-name .ensures, c .if2 .left)
+returns-3 c = rw (← c .before .before .before .before .before .before .skip-blanks .ensures, ← c .before .before .before .before .before .drop-blanks .ensures, ← c .before .before .before .before .is-quoted .ensures, not-false (c .before .before .before .before .is-quoted .result) (c .before .before .before .if1 .left), ← c .before .before .match-name .ensures, c .enum-told2 .given .1)
+
+returns-4 : tie.Need-returns-4
+unfolding keyed
+returns-4 c = rw (← c .before .before .before .before .before .before .skip-blanks .ensures, ← c .before .before .before .before .before .drop-blanks .ensures, ← c .before .before .before .before .is-quoted .ensures, not-false (c .before .before .before .before .is-quoted .result) (c .before .before .before .if1 .left), ← c .before .before .match-name .ensures, c .enum-told3 .given .1)
 
 pub keyed-item-spec : {M : Type 1} → statement M
 keyed-item-spec =
@@ -69,10 +85,14 @@ keyed-item-spec =
     drop-blanks-requires
     is-quoted-requires
     returns
-    add-same-name
-    sub-same-name
-    same-name-requires
+    add-match-name
+    sub-match-name
+    match-name-requires
+    enum-told
     add-value-at
     value-at-requires
+    enum-told-2
+    enum-told-3
     returns-2
-    returns-3)
+    returns-3
+    returns-4)

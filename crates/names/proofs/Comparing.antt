@@ -1,4 +1,4 @@
--- The bytes between two places, and their comparison, byte after byte.
+-- The bytes between two places, and their comparison, byte after byte; and what holds whatever a comparison gives.
 use Prim.Native.Nat.{ℕ, suc, _-_, _≤_, _<_}
 use mathlib.Core.Path.{_≡_, refl, ap, ap₂, _∙_}
 use mathlib.Core.Logic.{_↔_}
@@ -10,7 +10,9 @@ use lib.ListN.{length}
 use borrow.Author.Tests.{eqb-true, eq-eqb, ne-eqb}
 use Rattle.rules.proofs.LayoutLaws.{length-listed}
 use Rattle.paths.specs.Places.{between}
-use Rattle.query.specs.Items.{same}
+use Rattle.names.specs.Spelling.{same, onMatch}
+use Rattle.names.specs.declared.Match.{Match}
+use Rattle.names.specs.declared.Match.the-variants.{Same, Different, BadEscape}
 use Rattle.paths.proofs.PlaceLaws.{between-none, between-some}
 use Rattle.paths.proofs.PathLaws.{both-true}
 
@@ -58,3 +60,9 @@ module _ (byte : ℕ → ℕ) (p q : ℕ) (name : ℕ → ℕ) (b f : ℕ) where
   pub same-stop : p < q → b < f → (byte p ≡ name b → ⊥) → same (between byte p q) (between name b f) ≡ false
   unfolding same
   same-stop h l e = ap₂ same (between-some byte p q h) (between-some name b f l) ∙ rw (ne-eqb (byte p) (name b) e)
+
+-- what holds of all three answers holds of the answer
+pub match-ind {ℓ} : {A : Type ℓ} (P : A → Type 0) (m : Match) (x y z : A) → (m ≡ Same → P x) → (m ≡ Different → P y) → (m ≡ BadEscape → P z) → P (onMatch m x y z)
+match-ind P Same x y z f g h = f refl
+match-ind P Different x y z f g h = g refl
+match-ind P BadEscape x y z f g h = h refl

@@ -3,10 +3,10 @@ use Prim.Native.Nat.{suc, _+_, _-_, _≤_}
 use mathlib.Core.Path.{_≡_, sym, _∙_}
 use native.Mathlib.Omega.{arith}
 use Rattle.paths.specs.Places.{byteIn, between}
-use Rattle.query.specs.Items.{same}
-use Rattle.query.proofs.Comparing.{same-short, same-none, same-next, same-stop}
-use Rattle.query.proofs.items.same_name.Statement.{statement}
-use Rattle.query.proofs.items.same_name.Tie as tie
+use Rattle.names.specs.Spelling.{same}
+use Rattle.names.proofs.Comparing.{same-short, same-none, same-next, same-stop}
+use Rattle.names.proofs.same_bytes.Statement.{statement}
+use Rattle.names.proofs.same_bytes.Tie as tie
 
 abbrev Inv-loop : tie.InvT-loop
 Inv-loop text p q path b f n k₀ k = (k ≤ n) × (same (between (byteIn text) p q) (between (byteIn path) b f) ≡ same (between (byteIn text) (p + k) q) (between (byteIn path) (b + k) f))
@@ -66,8 +66,8 @@ loop-again c =
 returns-3 : tie.Need-returns-3 Inv-loop μ-loop
 returns-3 c = let l = c .before .loop in sym (l .inv .1 ∙ same-none _ _ _ _ _ _ (omega arith) (omega arith))
 
-pub same-name-spec : {M : Type 1} → statement M
-same-name-spec =
+pub same-bytes-spec : {M : Type 1} → statement M
+same-bytes-spec =
     tie.close
     (tie.spec
     Inv-loop
