@@ -1,10 +1,10 @@
 -- A name that RFC 8259 derives, compared with a path's: by its characters, and 30 exactly where a surrogate is left unpaired. By the characters of the
 -- name, two at a time where the first is a high surrogate.
 use mathlib.Core.Path.{_≡_, refl, sym, ap, _∙_, subst}
-use mathlib.Core.Bool.{Bool, true, false, _&&_, _||_, true≢false, false≢true, not-eq-not}
+use mathlib.Core.Bool.{Bool, true, false, true≢false, not-eq-not}
 use mathlib.Core.Logic.{_≢_, _↔_}
 use mathlib.Core.List.{List, [], _∷_, _++_}
-use Prim.Native.Nat.{ℕ, suc, _+_, _*_, _≤_, _<_}
+use Prim.Native.Nat.{ℕ, _+_, _≤_, _<_}
 use native.Mathlib.Omega.{arith}
 use borrow.Author.Tests.{ne-eqb}
 use Rattle.rules.specs.Word.{pick}
@@ -12,13 +12,13 @@ use Rattle.paths.specs.Grammar.{Letter, Rest, Name}
 use Rattle.paths.proofs.PathLaws.{range-of}
 use Rattle.paths.proofs.PlaceLaws.{pick-ind}
 use Rattle.texts.proofs.Tests.{and-false}
-use Rattle.texts.specs.Grammar.{In, UTF8-char, Unescaped, Short, Char, Chars}
+use Rattle.texts.specs.Grammar.{UTF8-char, Unescaped, Short, Char, Chars}
 use Rattle.texts.specs.Nodes.{isHigh, isLow, paired, characters}
 use Rattle.names.specs.Spelling.{unitOf, Spelling, spelled, wrong, withOne, spelling, same, compared, matched}
 use Rattle.names.specs.Spells.{Unit4}
 use Rattle.names.specs.Spells as Spells
 use Rattle.names.specs.declared.Match.{Match}
-use Rattle.names.specs.declared.Match.the-variants.{Same, Different, BadEscape}
+use Rattle.names.specs.declared.Match.the-variants.{Same, Different}
 use Rattle.names.proofs.Comparing.{same-exactly}
 use Rattle.names.proofs.SpellingLaws.{spelling-none}
 use Rattle.names.proofs.Spelled.{plain-one, short-one, unit-value, unit-one, unit-low, unit-half, unit-pair}

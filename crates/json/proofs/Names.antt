@@ -1,7 +1,7 @@
 -- Names that are unrepeated and have no unpaired surrogate: the first member whose name is the path's is the one that RFC 9535 selects. By the members
 -- of an object.
 use mathlib.Core.Path.{_≡_, refl, sym, _∙_}
-use mathlib.Core.Bool.{Bool, true, false, true≢false, not-eq-not}
+use mathlib.Core.Bool.{Bool, true, false, not-eq-not}
 use mathlib.Core.List.{List, [], _∷_}
 use Prim.Native.Nat.{ℕ, zero, suc, _+_}
 use lib.ListN.{length}
@@ -9,7 +9,6 @@ use Rattle.rules.specs.Word.{pick}
 use Rattle.paths.specs.Grammar.{Selector, name, number}
 use Rattle.texts.specs.Nodes.{characters, Json, scalar, array, object, Items, noItems, item, Fields, noFields, field}
 use Rattle.names.specs.Spelling.{same, matched, onMatch}
-use Rattle.names.specs.declared.Match.{Match}
 use Rattle.names.specs.declared.Match.the-variants.{Same, Different}
 use Rattle.names.proofs.Comparing.{same-exactly}
 use Rattle.json.specs.Select.{keepIf, named, nth, children, Fresh, Fair, FairItems, FairFields}

@@ -4,7 +4,7 @@ use mathlib.Core.Path.{_≡_, refl}
 use mathlib.Core.List.{List, [], _∷_}
 use Prim.Native.Nat.{ℕ, _+_}
 use native.Mathlib.Omega.{arith}
-use Rattle.texts.specs.Grammar.{In, Opt, Digits, Hexdig, Blank, Ws, Structural, Int, Number, Short, Char, Chars, Value, Object, Members, Member, Array, Values, JSON-text, textBytes, valueBytes}
+use Rattle.texts.specs.Grammar.{Opt, Digits, Hexdig, Blank, Ws, Structural, Int, Number, Short, Char, Chars, Value, Object, Members, Member, Array, Values, JSON-text, textBytes, valueBytes}
 use Rattle.texts.specs.Nodes.{characters, Json, tree, valueOf, firstOf, bytesOf, deep}
 use Rattle.json.specs.Select.{named, nth, children, flat, segments, select}
 use lib.ListN.{length}

@@ -1,20 +1,20 @@
 -- The reading of a name is exactly the derivations of `Spells`, and the comparison goes by them. One way by taking apart the tests that a character passed, the other by
 -- computing them for each derivation.
-use Prim.Native.Nat.{ℕ, zero, suc, _+_, _-_, _*_, _≤_, _<_}
+use Prim.Native.Nat.{ℕ, zero, suc, _+_, _-_, _*_, _<_}
 use mathlib.Core.Path.{_≡_, refl, sym, ap, _∙_, subst}
 use mathlib.Core.Bool.{Bool, true, false, _&&_, _||_, true≢false, false≢true, not-eq-not}
 use mathlib.Core.Logic.{_≢_, _↔_}
 use mathlib.Core.List.{List, [], _∷_}
 use native.Mathlib.Omega.{arith}
 use lib.Dec.{eqb, ltb}
-use lib.ListN.{length, getD, drop}
-use borrow.Author.Tests.{eq-eqb, ne-eqb, eqb-true, eqb-false, lt-ltb, le-ltb, ltb-true}
+use lib.ListN.{getD, drop}
+use borrow.Author.Tests.{ne-eqb, eqb-true, eqb-false, lt-ltb, ltb-true}
 use Rattle.rules.specs.Word.{pick}
 use Rattle.rules.proofs.Booleans.{impossible}
 use Rattle.paths.specs.Path.{inRange}
 use Rattle.paths.proofs.PlaceLaws.{pick-ind}
-use Rattle.paths.proofs.PathLaws.{range-in, range-below, range-above, range-of, both-true}
-use Rattle.texts.specs.Grammar.{In, Hexdig, Short}
+use Rattle.paths.proofs.PathLaws.{range-in, range-above, range-of, both-true}
+use Rattle.texts.specs.Grammar.{Hexdig, Short}
 use Rattle.texts.specs.Nodes.{isHigh, isLow, paired}
 use Rattle.names.specs.Spelling.{hexOf, isHex, fourOf, unitOf, shortOf, wide, spelt, Spelling, spelled, wrong, onSpelt, withOne, spellFrom, spelling, same, compared, matched}
 use Rattle.names.specs.Spells.{Unit4, uXXXX, Spells, Compares}

@@ -1,6 +1,6 @@
 -- A name read from a place on: what stands there, then the name from behind that. And the comparison, character after character.
 use Prim.Native.Nat.{ℕ, zero, suc, _+_, _-_, _≤_, _<_}
-use mathlib.Core.Path.{_≡_, refl, sym, ap, ap₂, _∙_}
+use mathlib.Core.Path.{_≡_, refl, sym, ap, _∙_}
 use mathlib.Core.Bool.{Bool, true, false, _&&_}
 use mathlib.Core.Logic.{_≢_}
 use mathlib.Core.List.{List, [], _∷_}
@@ -9,7 +9,7 @@ use native.Mathlib.Nat.{add-zero, add-suc, suc-add}
 use native.Mathlib.Decide.{decLt}
 use native.Mathlib.Numerals.{add-one}
 use lib.Dec.{eqb, ltb}
-use lib.ListN.{length, getD, drop, List·getD-eq-default}
+use lib.ListN.{getD, drop, List·getD-eq-default}
 use borrow.Author.Tests.{eq-eqb, ne-eqb, lt-ltb, le-ltb, ltb-true}
 use Rattle.rules.specs.Word.{pick}
 use Rattle.rules.proofs.LayoutLaws.{length-listed, getD-listed}
@@ -18,13 +18,12 @@ use Rattle.texts.proofs.Tests.{and-false}
 use Rattle.paths.specs.Places.{between}
 use Rattle.paths.proofs.PlaceLaws.{between-none, between-some, pick-ind}
 use Rattle.paths.proofs.PathLaws.{both-true}
-use Rattle.texts.specs.Nodes.{isHigh, isLow, paired}
-use Rattle.names.specs.Spelling.{hexOf, isHex, fourOf, unitOf, shortOf, wide, spelt, Spelling, spelled, wrong, onSpelt, withOne, spellFrom, spelling, same, compared, matched}
+use Rattle.texts.specs.Nodes.{isHigh, isLow}
+use Rattle.names.specs.Spelling.{hexOf, isHex, fourOf, unitOf, shortOf, wide, spelt, Spelling, spelled, wrong, withOne, spellFrom, spelling, same, compared, matched}
 use Rattle.names.specs.Spells.{Plain}
 use Rattle.names.specs.Helpers.{another}
 use Rattle.names.specs.declared.Spelt.{Spelt}
 use Rattle.names.specs.declared.Spelt.the-variants.{One, Wrong}
-use Rattle.names.specs.declared.Match.{Match}
 use Rattle.names.specs.declared.Match.the-variants as Matches
 
 -- ---- over lists

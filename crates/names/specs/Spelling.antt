@@ -1,11 +1,11 @@
 -- Names by their characters: RFC 8259, sections 7 and 8.3. A name is the bytes between its quotes, read from the left: an escape means its character,
 -- two escapes of surrogates make one, and any other byte stands for itself. (So a character that UTF-8 writes in several bytes stands as several. Each
--- is above 127, as no byte of a path's name is, and the same holds of most bytes that are no UTF-8.)
+-- is above 127, as is every byte that is no UTF-8; no byte of a path's name is.)
 use Prim.Native.Nat.{ℕ, zero, suc, _+_, _-_, _*_}
 use mathlib.Core.Bool.{Bool, true, false, _&&_, _||_}
 use mathlib.Core.List.{List, [], _∷_}
 use lib.ListN.{getD, drop}
-use lib.Dec.{ltb, leb, eqb}
+use lib.Dec.{ltb, eqb}
 use Rattle.rules.specs.Word.{pick}
 use Rattle.paths.specs.Path.{inRange}
 use Rattle.texts.specs.Nodes.{isHigh, isLow, paired}

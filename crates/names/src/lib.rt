@@ -48,15 +48,30 @@ fn any_backslash(text: &[u8], at: usize) -> bool
     any
 }
 
-// From p to q there is no backslash, and none close behind. (A name near the end of the record is not looked at.)
+// From p to q there is none, byte by byte: near the end of the record.
+fn is_plain_end(text: &[u8], p: usize, q: usize) -> bool
+    requires { ⌜ q ≤ length (now text) ⌝ }
+    ensures { λ r. ⌜ (r ≡ true → (i : ℕ) → p ≤ i → i < q → byteIn (now (text .entry)) i ≢ 0x5C) ⌝ }
+{
+    let mut i = p;
+    while i < q {
+        if text[i] == 0x5C {
+            return false;
+        }
+        i += 1;
+    }
+    true
+}
+
+// From p to q there is none, nor close behind.
 fn is_plain(text: &[u8], p: usize, q: usize) -> bool
-    requires { ⌜ (p ≤ q) × (q ≤ length (now text)) × (length (now text) ≤ 16777216) ⌝ }
+    requires { ⌜ (q ≤ length (now text)) × (length (now text) ≤ 16777216) ⌝ }
     ensures { λ r. ⌜ (r ≡ true → (i : ℕ) → p ≤ i → i < q → byteIn (now (text .entry)) i ≢ 0x5C) ⌝ }
 {
     let mut at = p;
     while at < q {
         if text.len() < at + 16 {
-            return false;
+            return is_plain_end(text, at, q);
         }
         if any_backslash(text, at) {
             return false;

@@ -84,6 +84,14 @@ first-at t a b e h m none y = first-skip t a b e h (omega arith) none ∙ first-
 pub first-all : (t : ℕ → Bool) (a e : ℕ) → a ≤ e → ((k : ℕ) → a ≤ k → k < e → t k ≡ false) → firstAt t a e ≡ e
 first-all t a e h none = first-skip t a e e h (omega arith) none ∙ first-none t e e (omega arith)
 
+-- what holds up to a place and from it on holds throughout
+pub side-by-side : (P : ℕ → Type 0) (a b e : ℕ) → ((i : ℕ) → a ≤ i → i < b → P i) → ((i : ℕ) → b ≤ i → i < e → P i) → (i : ℕ) → a ≤ i → i < e → P i
+side-by-side P a b e f g i l m = go (decLt i b)
+  where
+    go : Dec (i < b) → P i
+    go (yes h) = f i l h
+    go (no h) = g i (omega arith) m
+
 -- what holds of both sides of a choice holds of the choice
 pub pick-ind {ℓ} : {A : Type ℓ} (P : A → Type 0) (b : Bool) (x y : A) → (b ≡ true → P x) → (b ≡ false → P y) → P (pick b x y)
 pick-ind P true x y f g = f refl

@@ -17,7 +17,7 @@ use Rattle.names.proofs.Comparing.{match-ind}
 use Rattle.query.specs.Items.{Bits, lent, solid, trimStart, trimEnd, valueAt, quoted, keyed, itemAt, orElse, firstItemIn, firstItem, itemNo}
 use Rattle.query.specs.Walk.{onFound, ofItem, framed, filled, nameStep, numberStep, stepBy, walkFrom, walk}
 use Rattle.query.specs.Answers.{afterReading, answerOf}
-use Rattle.query.specs.declared.types.Cause.the-variants.{NoColon, BadName, EmptyValue, BadEscape}
+use Rattle.query.specs.declared.types.Cause.the-variants.{NoColon, EmptyValue}
 use Rattle.query.specs.declared.types.Miss.the-variants.{NoName, NoNumber}
 use Rattle.query.specs.declared.types.Refusal.{Refusal}
 use Rattle.query.specs.declared.types.Refusal.the-variants.{EmptyRecord, LongRecord, BadLevels, BadBuffer, TooLarge, TooDeep, Missed, Broken}

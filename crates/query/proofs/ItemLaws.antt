@@ -3,20 +3,29 @@ use Prim.Native.Nat.{ℕ, zero, suc, _+_, _-_, _≤_, _<_}
 use mathlib.Core.Path.{_≡_, refl, sym, _∙_}
 use mathlib.Core.Bool.{Bool, true, false}
 use native.Mathlib.Omega.{arith}
-use lib.Dec.{ltb}
-use borrow.Author.Tests.{ltb-true, lt-ltb, le-ltb}
+use native.Mathlib.Decide.{decLt}
+use lib.Dec.{ltb, eqb}
+use borrow.Author.Tests.{ltb-true, lt-ltb, le-ltb, ne-eqb}
 use Rattle.rules.specs.Word.{pick}
 use Rattle.paths.specs.Places.{firstAt, nthAt}
 use Rattle.query.specs.Items.{solid, quoted, itemNo}
 use Rattle.query.specs.Walk.{framed, filled}
 use Rattle.query.specs.declared.items.Item.the-variants.{Other}
-use Rattle.paths.proofs.PlaceLaws.{first-ge}
+use Rattle.paths.proofs.PlaceLaws.{first-ge, first-at, first-all}
 use Rattle.paths.proofs.PathLaws.{both-true}
 
 -- a quoted part has two bytes
 pub quoted-long : (quote : ℕ → Bool) (p q : ℕ) → quoted quote p q ≡ true → p + 1 < q
 unfolding quoted
 quoted-long quote p q h = ltb-true (p + 1) q (both-true (ltb (p + 1) q) _ h .0)
+
+-- the closing quote is the next set bit
+pub closes-at : (quote : ℕ → Bool) (a z q : ℕ) → a < q → quote (a + z) ≡ true → ((k : ℕ) → a ≤ k → k < a + z → quote k ≡ false) → eqb (a + z + 1) q ≡ eqb (firstAt quote a q + 1) q
+closes-at quote a z q l h none = go (decLt (a + z) q)
+  where
+    go : Dec (a + z < q) → eqb (a + z + 1) q ≡ eqb (firstAt quote a q + 1) q
+    go (yes m) = rw (first-at quote a (a + z) q (omega arith) m none h)
+    go (no m) = rw (first-all quote a q (omega arith) (λ k i j. none k i (omega arith)), ne-eqb (a + z + 1) q (omega arith), ne-eqb (q + 1) q (omega arith))
 
 -- so has a framed one
 pub framed-long : (byte : ℕ → ℕ) (head tail a e : ℕ) → framed byte head tail a e ≡ true → a + 1 < e

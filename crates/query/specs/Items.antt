@@ -1,6 +1,6 @@
 -- Blanks, values, and the items that a step takes: section 'Paths', over bytes and bits as functions of a place.
 use Prim.Native.Nat.{ℕ, zero, suc, _+_, _-_}
-use mathlib.Core.Bool.{Bool, true, false, not, _&&_, _||_}
+use mathlib.Core.Bool.{Bool, not, _&&_, _||_}
 use mathlib.Core.List.{List}
 use lib.Dec.{ltb, eqb}
 use Rattle.rules.specs.Word.{pick}

@@ -2,7 +2,8 @@
 use layout::Map;
 use layout::get_word;
 ghost use mathlib.Core.Path.{_≡_};
-ghost use Prim.Native.Nat.{_+_, _*_, _<_, _≤_};
+ghost use mathlib.Core.Bool.{false};
+ghost use Prim.Native.Nat.{ℕ, _+_, _*_, _<_, _≤_};
 ghost use Rattle.rules.specs.Layout.{cell, bitIn};
 ghost use Rattle.layout.specs.Maps.{mapped};
 ghost use Rattle.paths.specs.Places.{firstAt, nthAt};
@@ -32,7 +33,26 @@ pub fn bit(words: &[u64], s: Shape, m: Map, p: usize) -> bool
     (x >> (p % 64)) % 2 == 1
 }
 
-// The first place at or after a and before e whose bit is set, or e.
+// The same, where none is set from a to the end of word w: word after word.
+pub fn bit_behind(words: &[u64], s: Shape, m: Map, w: usize, e: usize) -> usize
+    requires { ⌜ w * 64 < e ⌝ }
+    requires { ⌜ Long (now words) s ⌝ }
+    requires { ⌜ Readable s m e ⌝ }
+    ensures { λ r. ⌜ ((a : ℕ) → a ≤ e → a ≤ w * 64 + 64 → ((k : ℕ) → a ≤ k → k < w * 64 + 64 → bitIn (now (words .entry)) (s .levels) (s .width) (mapped m) k ≡ false) → r ≡ firstAt (bitIn (now (words .entry)) (s .levels) (s .width) (mapped m)) a e) ⌝ }
+{
+    let mut v = w + 1;
+    while v * 64 < e {
+        let x = word(words, s, m, v);
+        if x != 0 {
+            let p = v * 64 + (u64::trailing_zeros(x) as usize);
+            return if p < e { p } else { e };
+        }
+        v += 1;
+    }
+    e
+}
+
+// The first place at or after a and before e whose bit is set, or e. Mostly in the word of a: short enough to stand where it is called.
 pub fn next_bit(words: &[u64], s: Shape, m: Map, a: usize, e: usize) -> usize
     requires { ⌜ a ≤ e ⌝ }
     requires { ⌜ Long (now words) s ⌝ }
@@ -42,18 +62,11 @@ pub fn next_bit(words: &[u64], s: Shape, m: Map, a: usize, e: usize) -> usize
     if e <= a {
         return a;
     }
-    let mut w = a / 64;
-    let mut at = a;
-    let mut x = word(words, s, m, w) >> (a % 64);
-    while x == 0 {
-        w = w + 1;
-        at = w * 64;
-        if e <= at {
-            return e;
-        }
-        x = word(words, s, m, w);
+    let x = word(words, s, m, a / 64) >> (a % 64);
+    if x == 0 {
+        return bit_behind(words, s, m, a / 64, e);
     }
-    let p = at + (u64::trailing_zeros(x) as usize);
+    let p = a + (u64::trailing_zeros(x) as usize);
     if p < e { p } else { e }
 }
 

@@ -54,8 +54,11 @@ fn is_quoted(words: &[u64], s: Shape, p: usize, q: usize) -> bool
     if !bits::bit(words, s, Map::Quotes, p) {
         return false;
     }
-    let c = bits::next_bit(words, s, Map::Quotes, p + 1, q);
-    c + 1 == q
+    let x = bits::word(words, s, Map::Quotes, (p + 1) / 64) >> ((p + 1) % 64);
+    if x == 0 {
+        return bits::bit_behind(words, s, Map::Quotes, (p + 1) / 64, q) + 1 == q;
+    }
+    p + 1 + (u64::trailing_zeros(x) as usize) + 1 == q
 }
 
 // An item from a to e whose first colon is at d, for the name b to f of the path.

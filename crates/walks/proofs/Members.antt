@@ -8,7 +8,6 @@ use native.Mathlib.Omega.{arith}
 use native.Mathlib.Decide.{decLt}
 use lib.Dec.{ltb, eqb}
 use borrow.Author.Tests.{ltb-true, ltb-false, lt-ltb, le-ltb, eqb-true, eq-eqb}
-use Rattle.rules.specs.Word.{pick}
 use Rattle.paths.specs.Places.{between, firstAt, pastLast}
 use Rattle.names.specs.Spelling.{matched, onMatch}
 use Rattle.names.specs.Spells.{Spells, Compares}

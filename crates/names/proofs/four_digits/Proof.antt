@@ -5,7 +5,6 @@ use Rattle.names.specs.Spelling.{fourOf}
 use borrow.Author.Needs.{needs}
 use Rattle.names.proofs.four_digits.Statement.{statement}
 use Rattle.names.proofs.four_digits.Tie as tie
-use Rattle.names.proofs.hex_of.Reads as hex-of-reads
 
 shared-slice-read-hex-of : tie.Need-shared-slice-read-hex-of
 shared-slice-read-hex-of c = search needs

@@ -3,8 +3,9 @@ use Prim.Native.Nat.{ℕ, _+_, _-_, _≤_, _<_}
 use mathlib.Core.Bool.{false≢true}
 use mathlib.Core.Logic.{_≢_}
 use native.Mathlib.Omega.{arith}
-use native.Mathlib.Decide.{decLt}
 use Rattle.paths.specs.Places.{byteIn}
+use Rattle.paths.proofs.PlaceLaws.{side-by-side}
+use borrow.Author.Needs.{needs}
 use Rattle.names.proofs.is_plain.Statement.{statement}
 use Rattle.names.proofs.is_plain.Tie as tie
 
@@ -20,8 +21,14 @@ loop-holds c = λ i l m e. omega arith
 add-if1 : tie.Need-add-if1 Inv-loop μ-loop
 add-if1 c = omega arith
 
+is-plain-end-requires : tie.Need-is-plain-end-requires Inv-loop μ-loop
+is-plain-end-requires c κs = search needs
+
 returns : tie.Need-returns Inv-loop μ-loop
-returns c = λ e i l m f. false≢true e
+returns c =
+    let a = c .before .before .before .before .before .args in
+    let l = c .before .before .before .loop in
+    λ e. side-by-side (λ i. byteIn (a .text .now) i ≢ 0x5C) (a .p) (l .at) (a .q) (l .inv) (c .is-plain-end .ensures e)
 
 any-backslash-requires : tie.Need-any-backslash-requires Inv-loop μ-loop
 any-backslash-requires c κs = omega arith
@@ -35,14 +42,6 @@ add-at c = omega arith
 loop-less : tie.Need-loop-less Inv-loop μ-loop
 loop-less c = omega arith
 
--- up to a, and from a on
-side-by-side : (t : ℕ → Type 0) (p a e : ℕ) → ((i : ℕ) → p ≤ i → i < a → t i) → ((i : ℕ) → a ≤ i → i < e → t i) → (i : ℕ) → p ≤ i → i < e → t i
-side-by-side t p a e f g i l m = go (decLt i a)
-  where
-    go : Dec (i < a) → t i
-    go (yes h) = f i l h
-    go (no h) = g i (omega arith) m
-
 loop-again : tie.Need-loop-again Inv-loop μ-loop
 loop-again c =
     let a = c .before .before .before .before .before .before .args in
@@ -53,4 +52,4 @@ returns-3 : tie.Need-returns-3 Inv-loop μ-loop
 returns-3 c = λ e i l m. c .before .loop .inv i l (omega arith)
 
 pub is-plain-spec : {M : Type 1} → statement M
-is-plain-spec = tie.close (tie.spec Inv-loop μ-loop loop-holds add-if1 returns any-backslash-requires returns-2 add-at loop-less loop-again returns-3)
+is-plain-spec = tie.close (tie.spec Inv-loop μ-loop loop-holds add-if1 is-plain-end-requires returns any-backslash-requires returns-2 add-at loop-less loop-again returns-3)

@@ -1,6 +1,4 @@
 -- Without a backslash a name's characters are its bytes.
-use mathlib.Core.Path.{sym, _∙_}
-use mathlib.Core.Bool.{Bool}
 use borrow.Author.Needs.{needs}
 use borrow.Author.Tests.{not-false}
 use Rattle.paths.specs.Places.{byteIn}

@@ -1,6 +1,4 @@
 -- The byte behind the backslash, if the name has one.
-use Prim.Native.Nat.{_+_}
-use mathlib.Core.Path.{sym, _∙_}
 use native.Mathlib.Omega.{arith}
 use borrow.Author.Needs.{needs}
 use borrow.Author.Tests.{lt-ltb}
