@@ -35,26 +35,26 @@ Beyond [] = Unit {0}
 Beyond (b ∷ bs) = (0x80 ≤ b) × Beyond bs
 
 -- a character of one byte is that byte; of several, neither it nor one of its bytes is in an ASCII name. None is a surrogate
-data UnitOf : List ℕ → ℕ → Type 0 where
-  narrow : {a : ℕ} → a < 0x80 → UnitOf (a ∷ []) a
-  wide : {a u : ℕ} {bs : List ℕ} → Beyond (a ∷ bs) → 0x80 ≤ u → (0xD800 ≤ u → u ≤ 0xDFFF → ⊥) → UnitOf (a ∷ bs) u
+data Written : List ℕ → ℕ → Type 0 where
+  narrow : {a : ℕ} → a < 0x80 → Written (a ∷ []) a
+  wide : {a u : ℕ} {bs : List ℕ} → Beyond (a ∷ bs) → 0x80 ≤ u → (0xD800 ≤ u → u ≤ 0xDFFF → ⊥) → Written (a ∷ bs) u
 
-single : {a : ℕ} → UTF8-char (a ∷ []) a → a < 0x80 → UnitOf (a ∷ []) a
+single : {a : ℕ} → UTF8-char (a ∷ []) a → a < 0x80 → Written (a ∷ []) a
 single c l = narrow l
 
-several : {a u : ℕ} {bs : List ℕ} → UTF8-char (a ∷ bs) u → Beyond (a ∷ bs) → 0x80 ≤ u → (0xD800 ≤ u → u ≤ 0xDFFF → ⊥) → UnitOf (a ∷ bs) u
+several : {a u : ℕ} {bs : List ℕ} → UTF8-char (a ∷ bs) u → Beyond (a ∷ bs) → 0x80 ≤ u → (0xD800 ≤ u → u ≤ 0xDFFF → ⊥) → Written (a ∷ bs) u
 several c l k s = wide l k s
 
-utf8-unit : {bs : List ℕ} {u : ℕ} → UTF8-char bs u → UnitOf bs u
-utf8-unit (UTF8-char.utf8-1 i) = single (UTF8-char.utf8-1 i) (omega arith)
-utf8-unit (UTF8-char.utf8-2 i j) = several (UTF8-char.utf8-2 i j) (omega arith) (omega arith) (omega arith)
-utf8-unit (UTF8-char.utf8-3a i j) = several (UTF8-char.utf8-3a i j) (omega arith) (omega arith) (omega arith)
-utf8-unit (UTF8-char.utf8-3b i j k) = several (UTF8-char.utf8-3b i j k) (omega arith) (omega arith) (omega arith)
-utf8-unit (UTF8-char.utf8-3c i j) = several (UTF8-char.utf8-3c i j) (omega arith) (omega arith) (omega arith)
-utf8-unit (UTF8-char.utf8-3d i j k) = several (UTF8-char.utf8-3d i j k) (omega arith) (omega arith) (omega arith)
-utf8-unit (UTF8-char.utf8-4a i j k) = several (UTF8-char.utf8-4a i j k) (omega arith) (omega arith) (omega arith)
-utf8-unit (UTF8-char.utf8-4b i j k l) = several (UTF8-char.utf8-4b i j k l) (omega arith) (omega arith) (omega arith)
-utf8-unit (UTF8-char.utf8-4c i j k) = several (UTF8-char.utf8-4c i j k) (omega arith) (omega arith) (omega arith)
+utf8-written : {bs : List ℕ} {u : ℕ} → UTF8-char bs u → Written bs u
+utf8-written (UTF8-char.utf8-1 i) = single (UTF8-char.utf8-1 i) (omega arith)
+utf8-written (UTF8-char.utf8-2 i j) = several (UTF8-char.utf8-2 i j) (omega arith) (omega arith) (omega arith)
+utf8-written (UTF8-char.utf8-3a i j) = several (UTF8-char.utf8-3a i j) (omega arith) (omega arith) (omega arith)
+utf8-written (UTF8-char.utf8-3b i j k) = several (UTF8-char.utf8-3b i j k) (omega arith) (omega arith) (omega arith)
+utf8-written (UTF8-char.utf8-3c i j) = several (UTF8-char.utf8-3c i j) (omega arith) (omega arith) (omega arith)
+utf8-written (UTF8-char.utf8-3d i j k) = several (UTF8-char.utf8-3d i j k) (omega arith) (omega arith) (omega arith)
+utf8-written (UTF8-char.utf8-4a i j k) = several (UTF8-char.utf8-4a i j k) (omega arith) (omega arith) (omega arith)
+utf8-written (UTF8-char.utf8-4b i j k l) = several (UTF8-char.utf8-4b i j k l) (omega arith) (omega arith) (omega arith)
+utf8-written (UTF8-char.utf8-4c i j k) = several (UTF8-char.utf8-4c i j k) (omega arith) (omega arith) (omega arith)
 
 -- ---- surrogates
 
@@ -68,9 +68,9 @@ scalar u h = record {
   low = not-eq-not {a = isLow u} {b = false} .0 (λ e. let r = range-of 0xDC00 0xDFFF u e in h (omega arith) (r .1));
 }
 
-unit-scalar : {b : List ℕ} {u : ℕ} → UnitOf b u → Scalar u
-unit-scalar {u} (narrow l) = scalar u (λ h k. omega arith)
-unit-scalar {u} (wide l k s) = scalar u s
+written-scalar : {b : List ℕ} {u : ℕ} → Written b u → Scalar u
+written-scalar {u} (narrow l) = scalar u (λ h k. omega arith)
+written-scalar {u} (wide l k s) = scalar u s
 
 short-small : {a u : ℕ} → Short a u → u < 0x80
 short-small Short.quotation-mark = omega arith
@@ -152,9 +152,9 @@ not-backslash (Unescaped.middle i) e = omega arith
 not-backslash (Unescaped.high i) e = omega arith
 
 module _ (rest us : List ℕ) (ih : Reads (spelling rest) (characters us)) where
-  reads-unescaped : {b : List ℕ} {u : ℕ} → UnitOf b u → Unescaped u → Reads (spelling (b ++ rest)) (characters (u ∷ us))
+  reads-unescaped : {b : List ℕ} {u : ℕ} → Written b u → Unescaped u → Reads (spelling (b ++ rest)) (characters (u ∷ us))
   reads-unescaped (narrow {a} l) n =
-      let s = unit-scalar (narrow l) in
+      let s = written-scalar (narrow l) in
       rw (plain-one a rest (not-backslash n), characters-one a us (s .high)) (reads-more s ih)
   reads-unescaped (wide {a} {u} {bs} l k h) n =
       let s = scalar u h in
@@ -197,7 +197,7 @@ unit-letter bs Short.line-feed = refl
 unit-letter bs Short.carriage-return = refl
 unit-letter bs Short.tab = refl
 
-first-plain : {b : List ℕ} {u : ℕ} (rest : List ℕ) → UnitOf b u → Unescaped u → isLow (unitOf (b ++ rest)) ≡ false
+first-plain : {b : List ℕ} {u : ℕ} (rest : List ℕ) → Written b u → Unescaped u → isLow (unitOf (b ++ rest)) ≡ false
 first-plain rest (narrow {a} l) n = unit-none a rest (not-backslash n)
 first-plain rest (wide {a} {u} {bs} l k h) n = unit-none a (bs ++ rest) (λ q. omega (arith, l .0))
 
@@ -212,7 +212,7 @@ reads-last {bs} {u} x ih = go (isHigh u) refl
 
 behind-high : {bs b : List ℕ} {u v : ℕ} (rest us : List ℕ) → Char b v → Unit4 bs u (b ++ rest) → isHigh u ≡ true → Reads (spelling rest) (characters us)
     → Reads (spelling bs) (characters (u ∷ v ∷ us))
-behind-high {v} rest us (Char.unescaped c n) x h ih = let w = utf8-unit c in reads-high v us x h (first-plain rest w n) (unit-scalar w .low)
+behind-high {v} rest us (Char.unescaped c n) x h ih = let w = utf8-written c in reads-high v us x h (first-plain rest w n) (written-scalar w .low)
 behind-high {v} rest us (Char.short s) x h ih = reads-high v us x h (unit-letter rest s) (short-scalar s .low)
 behind-high {bs} {u} {v} rest us (Char.uXXXX {a} {b} {c} {d} i j k l) x h ih = go (isLow v) refl
   where
@@ -234,7 +234,7 @@ reads-before {bs} {b} {u} {v} rest us d x here ih = go (isHigh u) refl
 reads : {raw us : List ℕ} → Chars raw us → Reads (spelling raw) (characters us)
 unfolding characters same
 reads Chars.none = rw spelling-none (right (λ n a. refl) tt)
-reads (Chars.char {bs} {us} (Char.unescaped c n) cs) = reads-unescaped bs us (reads cs) (utf8-unit c) n
+reads (Chars.char {bs} {us} (Char.unescaped c n) cs) = reads-unescaped bs us (reads cs) (utf8-written c) n
 reads (Chars.char {bs} {us} (Char.short s) cs) = reads-short bs us (reads cs) s
 reads (Chars.char (Char.uXXXX i j k l) Chars.none) = reads-last (Spells.uXXXX i j k l) (reads Chars.none)
 reads (Chars.char (Char.uXXXX i j k l) (Chars.char {bs} {us} d cs)) = reads-before bs us d (Spells.uXXXX i j k l) (reads (Chars.char d cs)) (reads cs)

@@ -2,7 +2,7 @@
 use mathlib.Core.Path.{_≡_, refl, _∙_}
 use mathlib.Core.Bool.{true, false, not, _&&_}
 use mathlib.Core.List.{List, [], _∷_, _++_, append-nil}
-use Prim.Native.Nat.{ℕ, suc, _+_, _-_, _≤_}
+use Prim.Native.Nat.{ℕ, suc, _+_, _-_, _≤_, _<_}
 use native.Mathlib.Nat.{add-zero, zero-add}
 use native.Mathlib.Numerals.{add-one}
 use native.Mathlib.Omega.{arith}
@@ -18,13 +18,14 @@ use Rattle.query.specs.Items.{valueAt}
 use Rattle.walks.specs.Ruled.{ruled}
 use Rattle.paths.specs.Path.{Reading, good, bad, readPath, large}
 use Rattle.query.specs.Walk.{onFound, walkFrom, walk}
-use Rattle.query.specs.Answers.{partOf, afterReading, answerOf}
+use Rattle.query.specs.Answers.{refusalNumber, numberOf, partOf, afterReading, answerOf}
 use Rattle.query.specs.declared.items.Item.the-variants as Items
 use Rattle.query.specs.declared.types.Answer.{Answer}
 use Rattle.query.specs.declared.types.Answer.the-variants.{Found, Refused}
-use Rattle.query.specs.declared.types.Refusal.the-variants.{EmptyRecord, LongRecord, BadLevels, BadBuffer, TooLarge, TooDeep}
+use Rattle.query.specs.declared.types.Refusal.{Refusal}
+use Rattle.query.specs.declared.types.Refusal.the-variants.{EmptyRecord, LongRecord, BadLevels, BadBuffer, BadPath, TooLarge, TooDeep}
 use Rattle.paths.proofs.PlaceLaws.{pick-ind}
-use Rattle.paths.proofs.Reading.{reads}
+use Rattle.paths.proofs.Reading.{reads, read-is-path}
 use Rattle.query.proofs.Inside.{InRecord, ItemInRecord, value-in, step-in}
 use Rattle.texts.specs.Grammar.{Text}
 use Rattle.texts.specs.Nodes.{Json, valueOf, firstOf, bytesOf, deep}
@@ -188,23 +189,36 @@ selected text words levels path ss t x =
     )
     (walk-selects text t path ss (x .within .derived))
 
+-- what holds of every refusal before the walk, and of every walk along a path of the subset, holds of the answer
+answered : (P : Answer → Type 0) (text words : List ℕ) (levels : ℕ) (path : List ℕ) → ((why : Refusal) → refusalNumber why < 23 → P (Refused why))
+    → ((ss : List Selector) → Path path ss → P (walk text (ruled text) ss)) → Promise text levels words → P (answerOf text words levels path)
+unfolding answerOf
+answered P text words levels path early walks p =
+    pick-ind P (eqb (length text) 0) (Refused EmptyRecord) _ (λ _. early EmptyRecord (omega arith)) (λ _.
+    pick-ind P (ltb 16777216 (length text)) (Refused LongRecord) _ (λ _. early LongRecord (omega arith)) (λ _.
+    pick-ind P (not (leb 1 levels && leb levels 16)) (Refused BadLevels) _ (λ _. early BadLevels (omega arith)) (λ _.
+    pick-ind P (not (eqb (length words) (sizeOf levels (length text)))) (Refused BadBuffer) _ (λ _. early BadBuffer (omega arith)) (λ _.
+    pick-ind P (ltb 1024 (length path)) (Refused TooLarge) _ (λ _. early TooLarge (omega arith)) (λ _. go (readPath path) refl)))))
+  where
+    go : (r : Reading) → readPath path ≡ r → P (afterReading text words levels r)
+    go (bad q) e = early (BadPath q) (omega arith)
+    go (good ss) e =
+        pick-ind P (large ss) (Refused TooLarge) _ (λ _. early TooLarge (omega arith)) (λ _.
+        pick-ind P (ltb levels (length ss)) (Refused TooDeep) _ (λ _. early TooDeep (omega arith)) (λ h.
+        rw (walk-promised text levels words ss p (ltb-false levels (length ss) h)) (walks ss (read-is-path path ss e))))
+
 unbroken : (text words : List ℕ) (levels : ℕ) (path : List ℕ) (t : Text text) → deep (valueOf (t .derivation)) ≤ 64 → Promise text levels words
     → Unbroken (answerOf text words levels path)
-unfolding answerOf
-unbroken text words levels path t d p =
-    pick-ind Unbroken (eqb (length text) 0) (Refused EmptyRecord) _ (λ _ i. omega (arith, i)) (λ _.
-    pick-ind Unbroken (ltb 16777216 (length text)) (Refused LongRecord) _ (λ _ i. omega (arith, i)) (λ _.
-    pick-ind Unbroken (not (leb 1 levels && leb levels 16)) (Refused BadLevels) _ (λ _ i. omega (arith, i)) (λ _.
-    pick-ind Unbroken (not (eqb (length words) (sizeOf levels (length text)))) (Refused BadBuffer) _ (λ _ i. omega (arith, i)) (λ _.
-    pick-ind Unbroken (ltb 1024 (length path)) (Refused TooLarge) _ (λ _ i. omega (arith, i)) (λ _. go (readPath path))))))
-  where
-    go : (r : Reading) → Unbroken (afterReading text words levels r)
-    go (bad q) = λ i. omega (arith, i)
-    go (good ss) =
-        pick-ind Unbroken (large ss) (Refused TooLarge) _ (λ _ i. omega (arith, i)) (λ _.
-        pick-ind Unbroken (ltb levels (length ss)) (Refused TooDeep) _ (λ _ i. omega (arith, i)) (λ h.
-        rw (walk-promised text levels words ss p (ltb-false levels (length ss) h)) (walk-unbroken text t d ss)))
+unbroken text words levels path t d = answered Unbroken text words levels path (λ why l i. omega (arith, i)) (λ ss p. walk-unbroken text t d ss)
+
+selects-read : {text : List ℕ} {ts : List Json} {x : Answer} → Selects text ts x → numberOf x ≡ 30 → ⊥
+selects-read (Selects.one t f) e = omega arith
+selects-read (Selects.none h) e = omega (arith, h)
+
+read : (text words : List ℕ) (levels : ℕ) (path : List ℕ) → Obeys text → Promise text levels words → numberOf (answerOf text words levels path) ≡ 30 → ⊥
+read text words levels path t =
+    answered (λ r. numberOf r ≡ 30 → ⊥) text words levels path (λ why l e. omega arith) (λ ss p. selects-read (walk-selects text t path ss p))
 
 -- demand 2, of paths
 pub claim : Claim
-claim = record { selected = selected; unbroken = unbroken; taken = text-sound }
+claim = record { selected = selected; unbroken = unbroken; read = read; taken = text-sound }

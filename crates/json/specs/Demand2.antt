@@ -51,10 +51,11 @@ abbrev pub Unbroken : Answer → Type 0
 Unbroken r = In 27 29 (numberOf r) → ⊥
 
 -- what is proved, for every derivation of the text: a query finds what RFC 9535 selects; whatever the names, no query gives 27, 28 or
--- 29; and such a text is sound
+-- 29, and with names as demanded none gives 30; and such a text is sound
 pub record Claim : Type 0 where
   pub selected : (text words : List ℕ) (levels : ℕ) (path : List ℕ) (ss : List Selector) (t : Obeys text) → AskedWith text words levels path ss
       → Selects text (select ss (root t)) (answerOf text words levels path)
   pub unbroken : (text words : List ℕ) (levels : ℕ) (path : List ℕ) (t : Text text) → deep (valueOf (t .derivation)) ≤ 64 → Promise text levels words
       → Unbroken (answerOf text words levels path)
+  pub read : (text words : List ℕ) (levels : ℕ) (path : List ℕ) → Obeys text → Promise text levels words → numberOf (answerOf text words levels path) ≡ 30 → ⊥
   pub taken : (text : List ℕ) (t : Text text) → deep (valueOf (t .derivation)) ≤ 64 → faultOf text ≡ sound

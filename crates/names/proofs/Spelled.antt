@@ -1,8 +1,8 @@
--- The reading of a name is exactly the derivations of `Spells`, and the comparison goes by them. One way by taking apart the tests that a character passed, the other by
--- computing them for each derivation.
+-- The reading of a name is exactly the derivations of `Spells`, and the comparison goes by them. One way by taking apart the tests that a character
+-- passed, the other by computing them for each derivation.
 use Prim.Native.Nat.{ℕ, zero, suc, _+_, _-_, _*_, _<_}
 use mathlib.Core.Path.{_≡_, refl, sym, ap, _∙_, subst}
-use mathlib.Core.Bool.{Bool, true, false, _&&_, _||_, true≢false, false≢true, not-eq-not}
+use mathlib.Core.Bool.{Bool, true, false, _&&_, true≢false, false≢true, not-eq-not}
 use mathlib.Core.Logic.{_≢_, _↔_}
 use mathlib.Core.List.{List, [], _∷_}
 use native.Mathlib.Omega.{arith}
@@ -144,23 +144,14 @@ Letter b u = 0 < u → Short b u
 short-derived : (b : ℕ) → Letter b (shortOf b)
 unfolding shortOf
 short-derived b =
-    pick-ind (Letter b) (eqb b 0x22 || (eqb b 0x5C || eqb b 0x2F)) _ _ (λ h _. itself h)
+    pick-ind (Letter b) (eqb b 0x22) _ _ (λ h _. rw (eqb-true b 0x22 h) Short.quotation-mark)
+    (λ _. pick-ind (Letter b) (eqb b 0x5C) _ _ (λ h _. rw (eqb-true b 0x5C h) Short.reverse-solidus)
+    (λ _. pick-ind (Letter b) (eqb b 0x2F) _ _ (λ h _. rw (eqb-true b 0x2F h) Short.solidus)
     (λ _. pick-ind (Letter b) (eqb b 0x62) _ _ (λ h _. rw (eqb-true b 0x62 h) Short.backspace)
     (λ _. pick-ind (Letter b) (eqb b 0x66) _ _ (λ h _. rw (eqb-true b 0x66 h) Short.form-feed)
     (λ _. pick-ind (Letter b) (eqb b 0x6E) _ _ (λ h _. rw (eqb-true b 0x6E h) Short.line-feed)
     (λ _. pick-ind (Letter b) (eqb b 0x72) _ _ (λ h _. rw (eqb-true b 0x72 h) Short.carriage-return)
-    (λ _. pick-ind (Letter b) (eqb b 0x74) _ _ (λ h _. rw (eqb-true b 0x74 h) Short.tab) (λ _ l. absurd (omega arith)))))))
-  where
-    other : (c : Bool) → eqb b 0x5C ≡ c → (c || eqb b 0x2F) ≡ true → Short b b
-    other true h k = rw (eqb-true b 0x5C h) Short.reverse-solidus
-    other false h k = rw (eqb-true b 0x2F k) Short.solidus
-
-    itself′ : (c : Bool) → eqb b 0x22 ≡ c → (c || (eqb b 0x5C || eqb b 0x2F)) ≡ true → Short b b
-    itself′ true h k = rw (eqb-true b 0x22 h) Short.quotation-mark
-    itself′ false h k = other (eqb b 0x5C) refl k
-
-    itself : (eqb b 0x22 || (eqb b 0x5C || eqb b 0x2F)) ≡ true → Short b b
-    itself k = itself′ (eqb b 0x22) refl k
+    (λ _. pick-ind (Letter b) (eqb b 0x74) _ _ (λ h _. rw (eqb-true b 0x74 h) Short.tab) (λ _ l. absurd (omega arith)))))))))
 
 -- what stands in front, and a derivation of what is behind it
 abbrev Derives : ℕ → List ℕ → Spelt → Type 0

@@ -2,7 +2,7 @@
 -- two escapes of surrogates make one, and any other byte stands for itself. (So a character that UTF-8 writes in several bytes stands as several. Each
 -- is above 127, as is every byte that is no UTF-8; no byte of a path's name is.)
 use Prim.Native.Nat.{ℕ, zero, suc, _+_, _-_, _*_}
-use mathlib.Core.Bool.{Bool, true, false, _&&_, _||_}
+use mathlib.Core.Bool.{Bool, true, false, _&&_}
 use mathlib.Core.List.{List, [], _∷_}
 use lib.ListN.{getD, drop}
 use lib.Dec.{ltb, eqb}
@@ -36,8 +36,8 @@ unitOf bs =
 -- behind the backslash %x22 / %x5C / %x2F / %x62 / %x66 / %x6E / %x72 / %x74: the character that it means; 0 of every other byte
 unfoldable pub shortOf : ℕ → ℕ
 shortOf b =
-    pick (eqb b 0x22 || (eqb b 0x5C || eqb b 0x2F)) b
-    (pick (eqb b 0x62) 0x08 (pick (eqb b 0x66) 0x0C (pick (eqb b 0x6E) 0x0A (pick (eqb b 0x72) 0x0D (pick (eqb b 0x74) 0x09 0)))))
+    pick (eqb b 0x22) 0x22 (pick (eqb b 0x5C) 0x5C (pick (eqb b 0x2F) 0x2F (pick (eqb b 0x62) 0x08
+    (pick (eqb b 0x66) 0x0C (pick (eqb b 0x6E) 0x0A (pick (eqb b 0x72) 0x0D (pick (eqb b 0x74) 0x09 0)))))))
 
 -- ---- what stands in front: a character, and how many bytes more than one write it
 

@@ -1,12 +1,12 @@
 // Names by their characters: an escape read, and a name of the record compared with a path's.
 ghost use mathlib.Core.Path.{_≡_};
+ghost use mathlib.Core.Bool.{true, false, _&&_, _||_};
 ghost use mathlib.Core.Logic.{_≢_};
 ghost use Prim.Native.Nat.{ℕ, _+_, _≤_, _<_};
+ghost use lib.Dec.{ltb, eqb};
 ghost use lib.ListN.{length, getD};
 ghost use Rattle.rules.specs.Word.{pick};
 ghost use Rattle.paths.specs.Places.{byteIn, between};
-ghost use lib.Dec.{ltb, eqb};
-ghost use mathlib.Core.Bool.{true, false, _&&_, _||_};
 ghost use Rattle.names.specs.Spelling.{hexOf, fourOf, unitOf, shortOf, wide, spelt, spelling, same, matched};
 ghost use Rattle.names.specs.Helpers.{another};
 ghost use Rattle.names.specs.declared.Spelt.the-variants.{One, Wrong};
@@ -25,6 +25,7 @@ pub enum Match {
     BadEscape,
 }
 
+// There was one before, or this byte is one.
 fn or_backslash(any: bool, b: u8) -> bool
     ensures { λ r. ⌜ r ≡ (eqb b 0x5C || any) ⌝ }
 {
@@ -48,8 +49,8 @@ fn any_backslash(text: &[u8], at: usize) -> bool
     any
 }
 
-// From p to q there is none, byte by byte: near the end of the record.
-fn is_plain_end(text: &[u8], p: usize, q: usize) -> bool
+// From p to q there is no backslash, looked for byte by byte.
+fn is_free(text: &[u8], p: usize, q: usize) -> bool
     requires { ⌜ q ≤ length (now text) ⌝ }
     ensures { λ r. ⌜ (r ≡ true → (i : ℕ) → p ≤ i → i < q → byteIn (now (text .entry)) i ≢ 0x5C) ⌝ }
 {
@@ -63,7 +64,8 @@ fn is_plain_end(text: &[u8], p: usize, q: usize) -> bool
     true
 }
 
-// From p to q there is none, nor close behind.
+// The same, 16 bytes at a time, over q as far as there are so many. Only where a backslash is among them, or the record ends, the
+// bytes are looked at one by one.
 fn is_plain(text: &[u8], p: usize, q: usize) -> bool
     requires { ⌜ (q ≤ length (now text)) × (length (now text) ≤ 16777216) ⌝ }
     ensures { λ r. ⌜ (r ≡ true → (i : ℕ) → p ≤ i → i < q → byteIn (now (text .entry)) i ≢ 0x5C) ⌝ }
@@ -71,10 +73,10 @@ fn is_plain(text: &[u8], p: usize, q: usize) -> bool
     let mut at = p;
     while at < q {
         if text.len() < at + 16 {
-            return is_plain_end(text, at, q);
+            return is_free(text, at, q);
         }
         if any_backslash(text, at) {
-            return false;
+            return is_free(text, at, q);
         }
         at += 16;
     }

@@ -50,7 +50,7 @@ unfoldable pub quoted : (ℕ → Bool) → ℕ → ℕ → Bool
 quoted quote p q = ltb (p + 1) q && (quote p && eqb (firstAt quote (p + 1) q + 1) q)
 
 -- an item from a to e whose first colon is at d, by a test of its name: "broken .. if what precedes the first such colon, without end blanks, is not"
--- quoted (28), or if its name is (30); else "the value is what follows that colon"
+-- quoted (28), then if the test says so of the name (30); else "the value is what follows that colon"
 unfoldable pub keyed : (ℕ → ℕ) → (ℕ → Bool) → (List ℕ → Match) → ℕ → ℕ → ℕ → Item
 unfolding valueAt quoted
 keyed byte quote test a d e =

@@ -33,7 +33,7 @@ pub fn bit(words: &[u64], s: Shape, m: Map, p: usize) -> bool
     (x >> (p % 64)) % 2 == 1
 }
 
-// The same, where none is set from a to the end of word w: word after word.
+// The first place before e whose bit is set, or e, from any place on from which no bit of word w is: word after word behind that.
 pub fn bit_behind(words: &[u64], s: Shape, m: Map, w: usize, e: usize) -> usize
     requires { ⌜ w * 64 < e ⌝ }
     requires { ⌜ Long (now words) s ⌝ }
@@ -52,7 +52,7 @@ pub fn bit_behind(words: &[u64], s: Shape, m: Map, w: usize, e: usize) -> usize
     e
 }
 
-// The first place at or after a and before e whose bit is set, or e. Mostly in the word of a: short enough to stand where it is called.
+// The first place at or after a and before e whose bit is set, or e: mostly in the word of a.
 pub fn next_bit(words: &[u64], s: Shape, m: Map, a: usize, e: usize) -> usize
     requires { ⌜ a ≤ e ⌝ }
     requires { ⌜ Long (now words) s ⌝ }

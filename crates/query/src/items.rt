@@ -41,7 +41,7 @@ pub fn value_at(text: &[u8], place: usize, a: usize, e: usize) -> Item
     }
 }
 
-// From p to q: a quote bit, none or more bytes without one, a quote bit.
+// From p to q: a quote bit, none or more bytes without one, a quote bit. The second mostly lies in the word at hand.
 fn is_quoted(words: &[u64], s: Shape, p: usize, q: usize) -> bool
     requires { ⌜ p ≤ q ⌝ }
     requires { ⌜ Long (now words) s ⌝ }

@@ -127,6 +127,10 @@ module _ (byte : ℕ → ℕ) (bits : Bits) where
   pub step-gives : (k : ℕ) (s : Selector) (a e : ℕ) (r : Answer) → (stepBy byte bits k s a e ≡ r) ↔ StepGives byte bits k s a e r
   step-gives k s a e r = (λ q. subst (StepGives byte bits k s a e) q (step-is k s a e), gives-step)
 
+  -- "number steps never give it"
+  pub names-alone : {k a e j p : ℕ} {s : Selector} → StepGives byte bits k s a e (Refused (Broken BadEscape j p)) → (n : List ℕ) × (s ≡ name n)
+  names-alone (broken-member {n} w u h) = (n, refl)
+
   -- ---- the steps that are left
 
   from-is : (k : ℕ) (ss : List Selector) (a e : ℕ) → StepsGive byte bits k ss a e (walkFrom byte bits k ss a e)

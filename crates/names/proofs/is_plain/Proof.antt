@@ -1,6 +1,5 @@
 -- The loop keeps that there is no backslash before where it stands.
 use Prim.Native.Nat.{ℕ, _+_, _-_, _≤_, _<_}
-use mathlib.Core.Bool.{false≢true}
 use mathlib.Core.Logic.{_≢_}
 use native.Mathlib.Omega.{arith}
 use Rattle.paths.specs.Places.{byteIn}
@@ -21,20 +20,26 @@ loop-holds c = λ i l m e. omega arith
 add-if1 : tie.Need-add-if1 Inv-loop μ-loop
 add-if1 c = omega arith
 
-is-plain-end-requires : tie.Need-is-plain-end-requires Inv-loop μ-loop
-is-plain-end-requires c κs = search needs
+is-free-requires : tie.Need-is-free-requires Inv-loop μ-loop
+is-free-requires c κs = search needs
 
 returns : tie.Need-returns Inv-loop μ-loop
 returns c =
     let a = c .before .before .before .before .before .args in
     let l = c .before .before .before .loop in
-    λ e. side-by-side (λ i. byteIn (a .text .now) i ≢ 0x5C) (a .p) (l .at) (a .q) (l .inv) (c .is-plain-end .ensures e)
+    λ e. side-by-side (λ i. byteIn (a .text .now) i ≢ 0x5C) (a .p) (l .at) (a .q) (l .inv) (c .is-free .ensures e)
 
 any-backslash-requires : tie.Need-any-backslash-requires Inv-loop μ-loop
 any-backslash-requires c κs = omega arith
 
+is-free-requires-2 : tie.Need-is-free-requires-2 Inv-loop μ-loop
+is-free-requires-2 c κs = search needs
+
 returns-2 : tie.Need-returns-2 Inv-loop μ-loop
-returns-2 c = λ e i l m f. false≢true e
+returns-2 c =
+    let a = c .before .before .before .before .before .before .before .args in
+    let l = c .before .before .before .before .before .loop in
+    λ e. side-by-side (λ i. byteIn (a .text .now) i ≢ 0x5C) (a .p) (l .at) (a .q) (l .inv) (c .is-free2 .ensures e)
 
 add-at : tie.Need-add-at Inv-loop μ-loop
 add-at c = omega arith
@@ -52,4 +57,4 @@ returns-3 : tie.Need-returns-3 Inv-loop μ-loop
 returns-3 c = λ e i l m. c .before .loop .inv i l (omega arith)
 
 pub is-plain-spec : {M : Type 1} → statement M
-is-plain-spec = tie.close (tie.spec Inv-loop μ-loop loop-holds add-if1 is-plain-end-requires returns any-backslash-requires returns-2 add-at loop-less loop-again returns-3)
+is-plain-spec = tie.close (tie.spec Inv-loop μ-loop loop-holds add-if1 is-free-requires returns any-backslash-requires is-free-requires-2 returns-2 add-at loop-less loop-again returns-3)

@@ -6,8 +6,8 @@ use mathlib.Core.Logic.{_≢_}
 use native.Mathlib.Omega.{arith}
 use Rattle.paths.specs.Places.{byteIn}
 use Rattle.paths.proofs.PlaceLaws.{side-by-side}
-use Rattle.names.proofs.is_plain_end.Statement.{statement}
-use Rattle.names.proofs.is_plain_end.Tie as tie
+use Rattle.names.proofs.is_free.Statement.{statement}
+use Rattle.names.proofs.is_free.Tie as tie
 
 abbrev Inv-loop : tie.InvT-loop
 Inv-loop text p q i₀ i = (k : ℕ) → p ≤ k → k < i → byteIn text k ≢ 0x5C
@@ -40,5 +40,5 @@ loop-again c =
 returns-2 : tie.Need-returns-2 Inv-loop μ-loop
 returns-2 c = λ e k l m. c .before .loop .inv k l (omega arith)
 
-pub is-plain-end-spec : {M : Type 1} → statement M
-is-plain-end-spec = tie.close (tie.spec Inv-loop μ-loop loop-holds shared-slice-read-if1 returns add-i loop-less loop-again returns-2)
+pub is-free-spec : {M : Type 1} → statement M
+is-free-spec = tie.close (tie.spec Inv-loop μ-loop loop-holds shared-slice-read-if1 returns add-i loop-less loop-again returns-2)
