@@ -72,18 +72,19 @@ written-scalar : {b : List ℕ} {u : ℕ} → Written b u → Scalar u
 written-scalar {u} (narrow l) = scalar u (λ h k. omega arith)
 written-scalar {u} (wide l k s) = scalar u s
 
-short-small : {a u : ℕ} → Short a u → u < 0x80
-short-small Short.quotation-mark = omega arith
-short-small Short.reverse-solidus = omega arith
-short-small Short.solidus = omega arith
-short-small Short.backspace = omega arith
-short-small Short.form-feed = omega arith
-short-small Short.line-feed = omega arith
-short-small Short.carriage-return = omega arith
-short-small Short.tab = omega arith
+-- what a short escape means is ASCII, and its letter is no `u`
+short-letter : {a u : ℕ} → Short a u → (u < 0x80) × (a ≢ 0x75)
+short-letter Short.quotation-mark = omega arith
+short-letter Short.reverse-solidus = omega arith
+short-letter Short.solidus = omega arith
+short-letter Short.backspace = omega arith
+short-letter Short.form-feed = omega arith
+short-letter Short.line-feed = omega arith
+short-letter Short.carriage-return = omega arith
+short-letter Short.tab = omega arith
 
 short-scalar : {a u : ℕ} → Short a u → Scalar u
-short-scalar {u} s = let l = short-small s in scalar u (λ h k. omega arith)
+short-scalar {u} s = let l = short-letter s .0 in scalar u (λ h k. omega arith)
 
 paired-scalar : (u v : ℕ) → Scalar (paired u v)
 paired-scalar u v = scalar (paired u v) (λ h k. omega arith)
@@ -188,14 +189,7 @@ unit-none b bs h = rw (ne-eqb b 0x5C h)
 
 unit-letter : {a u : ℕ} (bs : List ℕ) → Short a u → isLow (unitOf (0x5C ∷ a ∷ bs)) ≡ false
 unfolding unitOf
-unit-letter bs Short.quotation-mark = refl
-unit-letter bs Short.reverse-solidus = refl
-unit-letter bs Short.solidus = refl
-unit-letter bs Short.backspace = refl
-unit-letter bs Short.form-feed = refl
-unit-letter bs Short.line-feed = refl
-unit-letter bs Short.carriage-return = refl
-unit-letter bs Short.tab = refl
+unit-letter {a} bs s = rw (ne-eqb a 0x75 (short-letter s .1))
 
 first-plain : {b : List ℕ} {u : ℕ} (rest : List ℕ) → Written b u → Unescaped u → isLow (unitOf (b ++ rest)) ≡ false
 first-plain rest (narrow {a} l) n = unit-none a rest (not-backslash n)
