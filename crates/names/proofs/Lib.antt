@@ -2,3 +2,4 @@
 pub mod Comparing
 pub mod SpellingLaws
 pub mod Spelled
+pub mod Rows
