@@ -82,9 +82,9 @@ one-part text t a bs e f g =
 
 -- ---- along a path: what RFC 9535 selects, where names are unrepeated and have no unpaired surrogate
 
-abbrev Each : (Selector → Type 0) → List Selector → Type 0
-Each Q [] = Unit {0}
-Each Q (s ∷ ss) = Q s × Each Q ss
+abbrev PlainNames : List Selector → Type 0
+PlainNames [] = Unit {0}
+PlainNames (s ∷ ss) = PlainName s × PlainNames ss
 
 segments-none : (ss : List Selector) → segments ss [] ≡ []
 unfolding segments flat
@@ -92,7 +92,7 @@ segments-none [] = refl
 segments-none (s ∷ ss) = segments-none ss
 
 module _ (text : List ℕ) where
-  walked : (ss : List Selector) (k a : ℕ) (v : Bare) → Each PlainName ss → Fair (bareTree a v) → Good text k a v → a + length (bareBytes v) ≤ length text
+  walked : (ss : List Selector) (k a : ℕ) (v : Bare) → PlainNames ss → Fair (bareTree a v) → Good text k a v → a + length (bareBytes v) ≤ length text
       → Selects text (segments ss (bareTree a v ∷ [])) (walkFrom (byteIn text) (ruled text) (suc k) ss a (a + length (bareBytes v)))
   unfolding walkFrom segments flat
   walked [] k a v q p g l = one-part text (bareTree a v) a (bareBytes v) (first-tree a v) (bytes-tree a v) (seg-part text a (bareBytes v) (g .seg) l)
@@ -138,12 +138,12 @@ whole text t d =
 
 -- ---- by the rules' bits
 
-steps-plain : {bs : List ℕ} {ss : List Selector} → Steps bs ss → Each PlainName ss
+steps-plain : {bs : List ℕ} {ss : List Selector} → Steps bs ss → PlainNames ss
 steps-plain Steps.none = tt
 steps-plain (Steps.dot n s) = (name-ascii n, steps-plain s)
 steps-plain (Steps.bracket d s) = (tt, steps-plain s)
 
-path-plain : {bs : List ℕ} {ss : List Selector} → Path bs ss → Each PlainName ss
+path-plain : {bs : List ℕ} {ss : List Selector} → Path bs ss → PlainNames ss
 path-plain (Path.root s) = steps-plain s
 
 walk-selects : (text : List ℕ) (t : Obeys text) (path : List ℕ) (ss : List Selector) → Path path ss → Selects text (select ss (root t)) (walk text (ruled text) ss)

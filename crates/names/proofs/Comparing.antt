@@ -2,7 +2,7 @@
 use Prim.Native.Nat.{ℕ, suc, _-_, _≤_, _<_}
 use mathlib.Core.Path.{_≡_, refl, ap, ap₂, _∙_}
 use mathlib.Core.Logic.{_↔_}
-use mathlib.Core.Bool.{Bool, true, false, _&&_, false≢true}
+use mathlib.Core.Bool.{true, false, false≢true}
 use mathlib.Core.List.{List, [], _∷_}
 use native.Mathlib.Omega.{arith}
 use lib.Dec.{eqb}
@@ -15,6 +15,7 @@ use Rattle.names.specs.declared.Match.{Match}
 use Rattle.names.specs.declared.Match.the-variants.{Same, Different, BadEscape}
 use Rattle.paths.proofs.PlaceLaws.{between-none, between-some}
 use Rattle.paths.proofs.PathLaws.{both-true}
+use Rattle.texts.proofs.Tests.{and-false}
 
 -- names are the same exactly where their bytes are
 same-bytes : (xs ys : List ℕ) → same xs ys ≡ true → xs ≡ ys
@@ -31,10 +32,6 @@ same-self (x ∷ xs) = rw (eq-eqb x x refl) (same-self xs)
 
 pub same-exactly : (xs ys : List ℕ) → (same xs ys ≡ true) ↔ (xs ≡ ys)
 same-exactly xs ys = (same-bytes xs ys, λ e. rw (← e) (same-self xs))
-
-and-false : (b : Bool) → (b && false) ≡ false
-and-false true = refl
-and-false false = refl
 
 -- names of different lengths are different
 different : (xs ys : List ℕ) → (length xs ≡ length ys → ⊥) → same xs ys ≡ false

@@ -95,6 +95,6 @@ unfoldable pub matched : List ℕ → List ℕ → Match
 matched n bs = compared n (spelling bs)
 
 abbrev pub onMatch {ℓ} : {A : Type ℓ} → Match → A → A → A → A
-onMatch Matches.Same same different bad = same
-onMatch Matches.Different same different bad = different
-onMatch Matches.BadEscape same different bad = bad
+onMatch Matches.Same hit miss bad = hit
+onMatch Matches.Different hit miss bad = miss
+onMatch Matches.BadEscape hit miss bad = bad

@@ -19,14 +19,6 @@ pub quoted-long : (quote : ℕ → Bool) (p q : ℕ) → quoted quote p q ≡ tr
 unfolding quoted
 quoted-long quote p q h = ltb-true (p + 1) q (both-true (ltb (p + 1) q) _ h .0)
 
--- the closing quote is the next set bit
-pub closes-at : (quote : ℕ → Bool) (a z q : ℕ) → a < q → quote (a + z) ≡ true → ((k : ℕ) → a ≤ k → k < a + z → quote k ≡ false) → eqb (a + z + 1) q ≡ eqb (firstAt quote a q + 1) q
-closes-at quote a z q l h none = go (decLt (a + z) q)
-  where
-    go : Dec (a + z < q) → eqb (a + z + 1) q ≡ eqb (firstAt quote a q + 1) q
-    go (yes m) = rw (first-at quote a (a + z) q (omega arith) m none h)
-    go (no m) = rw (first-all quote a q (omega arith) (λ k i j. none k i (omega arith)), ne-eqb (a + z + 1) q (omega arith), ne-eqb (q + 1) q (omega arith))
-
 -- so has a framed one
 pub framed-long : (byte : ℕ → ℕ) (head tail a e : ℕ) → framed byte head tail a e ≡ true → a + 1 < e
 unfolding framed
@@ -35,6 +27,14 @@ framed-long byte head tail a e h = ltb-true (a + 1) e (both-true (ltb (a + 1) e)
 pub filled-some : (byte : ℕ → ℕ) (a e : ℕ) → a + 1 < e → filled byte a e ≡ true → a + 1 < e - 1
 unfolding filled
 filled-some byte a e l h = omega (arith, first-ge (solid byte) (a + 1) (e - 1) (omega arith), ltb-true _ (e - 1) h)
+
+-- the closing quote is the next set bit
+pub closes-at : (quote : ℕ → Bool) (a z q : ℕ) → a < q → quote (a + z) ≡ true → ((k : ℕ) → a ≤ k → k < a + z → quote k ≡ false) → eqb (a + z + 1) q ≡ eqb (firstAt quote a q + 1) q
+closes-at quote a z q l h none = go (decLt (a + z) q)
+  where
+    go : Dec (a + z < q) → eqb (a + z + 1) q ≡ eqb (firstAt quote a q + 1) q
+    go (yes m) = rw (first-at quote a (a + z) q (omega arith) m none h)
+    go (no m) = rw (first-all quote a q (omega arith) (λ k i j. none k i (omega arith)), ne-eqb (a + z + 1) q (omega arith), ne-eqb (q + 1) q (omega arith))
 
 module _ (byte : ℕ → ℕ) (comma : ℕ → Bool) (e : ℕ) where
   item-by : (m a : ℕ) → itemNo byte comma (suc m) a e ≡ pick (ltb (nthAt comma m a e) e) (itemNo byte comma 0 (nthAt comma m a e + 1) e) Other

@@ -12,7 +12,7 @@ use Rattle.query.proofs.Lents.{readable-to}
 use Rattle.query.proofs.bits.bit_behind.Statement.{statement}
 use Rattle.query.proofs.bits.bit_behind.Tie as tie
 
--- none from a to e, which lies behind b
+-- none is set from b up to e
 abbrev None : (ℕ → Bool) → ℕ → ℕ → Type 0
 None t b e = (k : ℕ) → b ≤ k → k < e → t k ≡ false
 
