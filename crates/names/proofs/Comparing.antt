@@ -17,7 +17,7 @@ use Rattle.paths.proofs.PlaceLaws.{between-none, between-some}
 use Rattle.paths.proofs.PathLaws.{both-true}
 use Rattle.texts.proofs.Tests.{and-false}
 
--- names are the same exactly where their bytes are
+-- lists are the same exactly where their numbers are
 same-bytes : (xs ys : List ℕ) → same xs ys ≡ true → xs ≡ ys
 unfolding same
 same-bytes [] [] e = refl
@@ -33,7 +33,7 @@ same-self (x ∷ xs) = rw (eq-eqb x x refl) (same-self xs)
 pub same-exactly : (xs ys : List ℕ) → (same xs ys ≡ true) ↔ (xs ≡ ys)
 same-exactly xs ys = (same-bytes xs ys, λ e. rw (← e) (same-self xs))
 
--- names of different lengths are different
+-- lists of different lengths are different
 different : (xs ys : List ℕ) → (length xs ≡ length ys → ⊥) → same xs ys ≡ false
 unfolding same
 different [] [] h = absurd (h refl)

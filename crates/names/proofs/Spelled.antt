@@ -8,6 +8,7 @@ use mathlib.Core.List.{List, [], _∷_}
 use native.Mathlib.Omega.{arith}
 use lib.Dec.{eqb, ltb}
 use lib.ListN.{getD, drop}
+use lib.Seq.{drop-drop}
 use borrow.Author.Tests.{ne-eqb, eqb-true, eqb-false, lt-ltb, ltb-true}
 use Rattle.rules.specs.Word.{pick}
 use Rattle.rules.proofs.Booleans.{impossible}
@@ -158,14 +159,6 @@ abbrev Derives : ℕ → List ℕ → Spelt → Type 0
 Derives b bs (One u m) = (us : List ℕ) → Spells (drop m bs) us → Spells (b ∷ bs) (u ∷ us)
 Derives b bs Wrong = Unit {0}
 
-twelve : (bs : List ℕ) → drop 6 (drop 5 bs) ≡ drop 11 bs
-twelve [] = refl
-twelve (a ∷ []) = refl
-twelve (a ∷ b ∷ []) = refl
-twelve (a ∷ b ∷ c ∷ []) = refl
-twelve (a ∷ b ∷ c ∷ d ∷ []) = refl
-twelve (a ∷ b ∷ c ∷ d ∷ e ∷ bs) = refl
-
 low-small : (v : ℕ) → isLow v ≡ true → v < 0x10000
 low-small v h = let r = range-of 0xDC00 0xDFFF v h in omega arith
 
@@ -176,7 +169,7 @@ wide-derived b bs l =
     let x = unit-derived (b ∷ bs) (tested (b ∷ bs) l) in
     pick-ind (Derives b bs) (isHigh u) _ _
     (λ h. pick-ind (Derives b bs) (isLow v) _ _
-    (λ k us s. Spells.pair x h (unit-derived (drop 5 bs) (tested (drop 5 bs) (low-small v k))) k (rw (twelve bs) s)) (λ _. tt))
+    (λ k us s. Spells.pair x h (unit-derived (drop 5 bs) (tested (drop 5 bs) (low-small v k))) k (rw (drop-drop 6 5 bs) s)) (λ _. tt))
     (λ h. pick-ind (Derives b bs) (isLow u) _ _ (λ _. tt) (λ k us s. Spells.uXXXX x h k s))
 
 letter-derived : (bs : List ℕ) → 0 < shortOf (getD bs 0 0) → Derives 0x5C bs (One (shortOf (getD bs 0 0)) 1)

@@ -84,7 +84,7 @@ either-way true = refl
 either-way false = refl
 
 module _ (byte : ℕ → ℕ) where
-  pub drop-between : (m i q : ℕ) → drop m (between byte i q) ≡ between byte (i + m) q
+  drop-between : (m i q : ℕ) → drop m (between byte i q) ≡ between byte (i + m) q
   drop-between zero i q = rw (add-zero i)
   drop-between (suc m) i q = go (drop-between m (suc i) q) (decLt i q)
     where
@@ -98,7 +98,7 @@ module _ (byte : ℕ → ℕ) where
   pub none-between : (i q k : ℕ) → q ≤ i + k → getD (between byte i q) k 0 ≡ 0
   none-between i q k l = List·getD-eq-default (between byte i q) 0 (omega (arith, length-listed byte i (q - i)))
 
-  pub front-between : (i q : ℕ) → i < q → getD (between byte i q) 0 0 ≡ byte i
+  front-between : (i q : ℕ) → i < q → getD (between byte i q) 0 0 ≡ byte i
   front-between i q l = byte-between i q 0 (omega arith) ∙ ap byte (add-zero i)
 
   pub plain-between : (p q : ℕ) → ((i : ℕ) → p ≤ i → i < q → byte i ≢ 0x5C) → Plain (between byte p q)
@@ -145,7 +145,7 @@ module _ (byte : ℕ → ℕ) where
         )
 
   module _ (i q : ℕ) (l : i < q) where
-    pub reads-one : {u m : ℕ} → spelt (between byte i q) ≡ One u m → spelling (between byte i q) ≡ withOne u (spelling (between byte (i + 1 + m) q))
+    reads-one : {u m : ℕ} → spelt (between byte i q) ≡ One u m → spelling (between byte i q) ≡ withOne u (spelling (between byte (i + 1 + m) q))
     reads-one {u} {m} e =
         let s = between-some byte i q l in
         let n : suc i + m ≡ i + 1 + m = omega arith in
@@ -159,36 +159,36 @@ module _ (byte : ℕ → ℕ) where
     pub reads-wrong : spelt (between byte i q) ≡ Wrong → spelling (between byte i q) ≡ wrong
     reads-wrong e = let s = between-some byte i q l in ap spelling s ∙ spelling-wrong (byte i) (between byte (suc i) q) (sym (ap spelt s) ∙ e)
 
-    pub reads-short : (b : ℕ) → b ≡ byte i → b ≡ 0x5C → 0x10000 ≤ unitOf (between byte i q)
-        → spelt (between byte i q) ≡ pick (ltb 0 (shortOf (getD (between byte i q) 1 0))) (One (shortOf (getD (between byte i q) 1 0)) 1) Wrong
+    pub reads-plain : byte i ≢ 0x5C → spelt (between byte i q) ≡ One (byte i) 0
     unfolding spelt
-    reads-short b e f h = rw (front-between i q l, ← e, eq-eqb b 0x5C f, le-ltb (unitOf (between byte i q)) 0x10000 h)
+    reads-plain h = rw (front-between i q l, ne-eqb (byte i) 0x5C h)
 
-    pub reads-plain : (b : ℕ) → b ≡ byte i → b ≢ 0x5C → spelt (between byte i q) ≡ One b 0
-    unfolding spelt
-    reads-plain b e h = rw (front-between i q l, ← e, ne-eqb b 0x5C h)
-
-    pub reads-wide : (b : ℕ) → b ≡ byte i → b ≡ 0x5C → unitOf (between byte i q) < 0x10000
+    pub reads-wide : byte i ≡ 0x5C → unitOf (between byte i q) < 0x10000
         → spelt (between byte i q) ≡ wide (unitOf (between byte i q)) (unitOf (between byte (i + 6) q))
     unfolding spelt
-    reads-wide b e f h = rw (drop-between 6 i q, front-between i q l, ← e, eq-eqb b 0x5C f, lt-ltb (unitOf (between byte i q)) 0x10000 h)
+    reads-wide e h = rw (drop-between 6 i q, front-between i q l, eq-eqb (byte i) 0x5C e, lt-ltb (unitOf (between byte i q)) 0x10000 h)
+
+    pub reads-short : byte i ≡ 0x5C → 0x10000 ≤ unitOf (between byte i q)
+        → spelt (between byte i q) ≡ pick (ltb 0 (shortOf (getD (between byte i q) 1 0))) (One (shortOf (getD (between byte i q) 1 0)) 1) Wrong
+    unfolding spelt
+    reads-short e h = rw (front-between i q l, eq-eqb (byte i) 0x5C e, le-ltb (unitOf (between byte i q)) 0x10000 h)
 
   pub reads-none : (i q : ℕ) → q ≤ i → spelling (between byte i q) ≡ spelled []
   reads-none i q l = ap spelling (between-none byte i q l) ∙ spelling-none
 
 -- ---- the comparison
 
-pub compared-next : (u y : ℕ) (ys : List ℕ) (s : Spelling) → eqb u y ≡ true → compared (y ∷ ys) (withOne u s) ≡ compared ys s
+compared-next : (u y : ℕ) (ys : List ℕ) (s : Spelling) → eqb u y ≡ true → compared (y ∷ ys) (withOne u s) ≡ compared ys s
 unfolding same
 compared-next u y ys (spelled us) e = rw e
 compared-next u y ys wrong e = refl
 
-pub compared-other : (u y : ℕ) (ys : List ℕ) (s : Spelling) → eqb u y ≡ false → compared (y ∷ ys) (withOne u s) ≡ another s
+compared-other : (u y : ℕ) (ys : List ℕ) (s : Spelling) → eqb u y ≡ false → compared (y ∷ ys) (withOne u s) ≡ another s
 unfolding same
 compared-other u y ys (spelled us) e = rw e
 compared-other u y ys wrong e = refl
 
-pub compared-over : (u : ℕ) (s : Spelling) → compared [] (withOne u s) ≡ another s
+compared-over : (u : ℕ) (s : Spelling) → compared [] (withOne u s) ≡ another s
 unfolding same
 compared-over u (spelled us) = refl
 compared-over u wrong = refl

@@ -1,5 +1,5 @@
 -- Test by test, as the definition.
-use mathlib.Core.Path.{refl, sym, _∙_}
+use mathlib.Core.Path.{sym, _∙_}
 use native.Mathlib.Omega.{arith}
 use borrow.Author.Needs.{needs}
 use Rattle.paths.specs.Places.{byteIn}
@@ -18,7 +18,7 @@ cast-t11 c = omega (arith, c .shared-slice-known3 .given (c .before .before .bef
 
 returns : tie.Need-returns
 unfolding byteIn
-returns c = let a = c .before .before .before .before .args in sym (reads-plain (byteIn (a .text .now)) (a .i) (a .q) (omega arith) _ refl (c .before .if1 .taken))
+returns c = let a = c .before .before .before .before .args in sym (reads-plain (byteIn (a .text .now)) (a .i) (a .q) (omega arith) (c .before .if1 .taken))
 
 unit-at-requires : tie.Need-unit-at-requires
 unit-at-requires c κs = search needs
@@ -37,7 +37,7 @@ unfolding byteIn
 returns-2 c =
     let a = c .before .before .before .before .before .before .before .args in
     let e = c .before .before .before .unit-at .ensures in
-    c .wide-of .ensures ∙ rw (e, c .before .unit-at2 .ensures) (sym (reads-wide (byteIn (a .text .now)) (a .i) (a .q) (omega arith) _ refl (c .before .before .before .before .if1 .left) (rw e at (c .before .before .if2 .taken))))
+    c .wide-of .ensures ∙ rw (e, c .before .unit-at2 .ensures) (sym (reads-wide (byteIn (a .text .now)) (a .i) (a .q) (omega arith) (c .before .before .before .before .if1 .left) (rw e at (c .before .before .if2 .taken))))
 
 short-at-requires : tie.Need-short-at-requires
 short-at-requires c κs = search needs
@@ -46,7 +46,7 @@ returns-3 : tie.Need-returns-3
 unfolding byteIn
 returns-3 c =
     let a = c .before .before .before .before .before .before .args in
-    c .short-at .ensures ∙ sym (reads-short (byteIn (a .text .now)) (a .i) (a .q) (omega arith) _ refl (c .before .before .before .if1 .left) (rw (c .before .before .unit-at .ensures) at (c .before .if2 .left)))
+    c .short-at .ensures ∙ sym (reads-short (byteIn (a .text .now)) (a .i) (a .q) (omega arith) (c .before .before .before .if1 .left) (rw (c .before .before .unit-at .ensures) at (c .before .if2 .left)))
 
 pub spelt-at-spec : {M : Type 1} → statement M
 spelt-at-spec =
