@@ -1,30 +1,33 @@
-/* Wararish for C and C++: a structural index over a JSON record, built by proved code in words
- * that the caller lends.
+/* Wararish for C and C++: a structural index over a JSON record, or over each line of a text by
+ * itself, built by proved code in words that the caller lends.
  *
  * Link target/staticlib/libface.a, which `rt staticlib face` proves and writes (x86-64). The code
- * keeps no state, allocates nothing and starts no threads; calls that write different words may
- * run at once.
+ * keeps no state, allocates nothing and starts no threads; calls that write different words, and
+ * different tables, may run at once.
  *
  * What the caller owes, for each function. Nothing checks it:
  *   - no pointer is NULL, also where its length is 0 (point at any object then);
- *   - each length is the true one, in elements, and words, cuts, place, size and step are aligned
- *     as their types are;
- *   - words (where they are written), place, size and step overlap nothing else that is handed in;
- *   - nobody else writes the record, cuts, calls, path or the words of a query while a call runs,
- *     or reads or writes what the call writes.
- * All else is checked by the proved code: what it cannot do it refuses, with a number of the table
- * below, and writes no word then, but for 12. Place, size and step are always written.
+ *   - each length is the true one, in elements, and what is pointed at is aligned as its type is;
+ *   - words and table (where they are written), place, size, step, count, start and end overlap
+ *     nothing else that is handed in;
+ *   - nobody else writes the record or text, cuts, calls, path, the words of a query or the table
+ *     of a line while a call runs, or reads or writes what the call writes.
+ * All else is checked by the proved code: what it cannot do it refuses, with a number of the list
+ * below, and writes no word and no entry then, but for 12. Place, size, step, count, start and end
+ * are always written.
  *
  *    0      done; for a query: found
- *    1  2   the record is empty; above WARARISH_LIMIT bytes
- *    3  4   the levels are not 1 to 16; the words are not WARARISH_WORDS(levels, record_length)
+ *    1  2   the record, text or line is empty; above WARARISH_LIMIT bytes
+ *    3  4   the levels are not 1 to 16; the words are not WARARISH_WORDS(levels, record_length),
+ *           for a line: fewer than WARARISH_WORDS(levels, its length)
  *    5  6   more than 63 cuts; a cut is no multiple of 64, or 0, or not inside the record, or not
  *           above the one before (place: its number in the list, from 0)
  *   12      the calls leave out a step; what was accepted of them has written its words
  *   13 14   fault of the record: a closer with no bracket open; an opener with 64 open (place: the
  *           byte's)
  *   15 16   fault of the record: a string, a bracket is open at the end (place: the record's
- *           length); after 13 to 16 all words are 0
+ *           length); after 13 to 16 all words are 0, for a line: all of its own. The line is the
+ *           record then, and the place is counted in it
  *   20      this is no path (place: where in it)
  *   21 22   the path is above 1,024 bytes, or a number in it above 16,777,215; it has more steps
  *           than there are levels
@@ -35,6 +38,7 @@
  *           (place and step: 0)
  *   30      a broken item: its name has an escape that RFC 8259 has not, or an unpaired surrogate;
  *           checked before 29
+ *   31      the text has more lines than the table has entries
  * 23 to 30 tell the step of the path, from 1, and a place in the record: for 23 to 26 the first
  * byte of the value that the step works in, for a broken item the byte behind the bracket or comma
  * before it. Where a number tells no place, place is 0, and where it tells no step, step is 0.
@@ -93,6 +97,35 @@ uint64_t wararish_query(const uint8_t *record, size_t record_length,
                         size_t levels,
                         const uint8_t *path, size_t path_length,
                         size_t *place, size_t *size, size_t *step);
+
+/* Makes the table of a text with a record in each line. Lines are cut at LF bytes, in strings too;
+ * the LF is in no line, a CR before it is, and a last line needs no LF. Lines of nothing but
+ * spaces, tabs and CRs are left out. Line i, from 0, starts at table[2 * i] and ends before
+ * table[2 * i + 1]. Gives 0, and count is how many lines there are, 0 where all are blank; entries
+ * behind them stay, and an odd last number does. Else gives 1, 2 or 31; the table stays, and count
+ * is 0. A table of text_length + 1 numbers has room for all lines. */
+uint64_t wararish_table(const uint8_t *text, size_t text_length,
+                        size_t *table, size_t table_length,
+                        size_t *count);
+
+/* Indexes a line of a table by itself, as a record of its bytes alone, in the front of the words:
+ * WARARISH_WORDS(levels, its length) of them are its own, and those behind stay. So the same words,
+ * enough for the longest line, do for one line after another; they need not be cleared. Gives 0, or
+ * 1 to 4, or a fault of the line, 13 to 16. An entry that is no part of the text, and a number
+ * behind the table, is an empty line (1). To query the line hand in its bytes and its own words. */
+uint64_t wararish_line(const uint8_t *text, size_t text_length,
+                       const size_t *table, size_t table_length,
+                       size_t line,
+                       uint64_t *words, size_t words_length,
+                       size_t levels,
+                       size_t *place);
+
+/* Finds the first line that is not blank from a place on, without a table. A line is taken to begin
+ * at the place: to walk all lines begin at 0 and go on from the end of each. Gives 1, with where
+ * the line starts and ends; or 0, with start and end 0, where there is none. */
+uint64_t wararish_next_line(const uint8_t *text, size_t text_length,
+                            size_t from,
+                            size_t *start, size_t *end);
 
 #ifdef __cplusplus
 }

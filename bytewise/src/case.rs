@@ -2,6 +2,7 @@
 
 use crate::handed::{closed, open, Handed};
 use crate::job::{Answer, Step};
+use crate::lines::{self, Indexed, Line};
 use crate::path::{query, Found};
 use crate::rules::width;
 
@@ -9,11 +10,18 @@ use crate::rules::width;
 pub const SHORT_RECORD: u8 = 2;
 pub const SHORT_WORDS: u8 = 4;
 
+/// For so many numbers of a table, bytes of a record and words `trial` has room.
+pub const NUMBERS_ROOM: usize = 128;
+pub const RECORD_ROOM: usize = 65_536;
+pub const WORDS_ROOM: usize = 8_192;
+
 pub struct Case {
     pub calls: Vec<u8>,
     pub line: String,
     pub record: Vec<u8>,
     pub words: Vec<u64>,
+    /// The numbers of the line table.
+    pub table: Vec<usize>,
     pub job: Handed,
     kept: Handed,
     digest: u64,
@@ -39,6 +47,7 @@ impl Case {
             line: String::new(),
             record: Vec::new(),
             words: Vec::new(),
+            table: Vec::new(),
             job: closed(),
             kept: closed(),
             digest: 0,
@@ -63,6 +72,7 @@ impl Case {
     }
 
     pub fn set_record(&mut self, record: &[u8]) {
+        assert!(record.len() <= RECORD_ROOM, "a record of {} bytes", record.len());
         self.head(b'R', 0, 0, record.len(), 0);
         self.calls.extend_from_slice(record);
         self.record = record.to_vec();
@@ -70,6 +80,7 @@ impl Case {
 
     /// So many words, with contents from a seed.
     pub fn set_words(&mut self, count: usize, seed: u64) {
+        assert!(count <= WORDS_ROOM, "{count} words");
         self.head(b'W', 0, 0, count, seed);
         let mut x = seed;
         self.words.clear();
@@ -77,6 +88,16 @@ impl Case {
             x = x.wrapping_add(0x9E37_79B9_7F4A_7C15);
             self.words.push(x ^ (x >> 31));
         }
+    }
+
+    /// The line table that is lent from now on. A case that makes one or goes by one sets it first: the program's stays.
+    pub fn set_table(&mut self, numbers: &[usize]) {
+        assert!(numbers.len() <= NUMBERS_ROOM, "a table of {} numbers", numbers.len());
+        self.head(b'G', 0, 0, 8 * numbers.len(), 0);
+        for &number in numbers {
+            self.calls.extend_from_slice(&(number as u64).to_le_bytes());
+        }
+        self.table = numbers.to_vec();
     }
 
     pub fn damage(&mut self, at: usize, by: u64) {
@@ -97,11 +118,23 @@ impl Case {
         self.job = self.kept.clone();
     }
 
-    /// Of a call that may write words: its answer, and the words as lent go into the digest.
+    /// The words as lent go into the digest.
+    fn digest_words(&mut self, lent: usize) {
+        self.digest = self.words[..lent].iter().fold(self.digest, |digest, &word| mix(digest, word));
+    }
+
+    /// Of a call that may write words: its answer, and the words.
     fn told(&mut self, (number, place): Answer, lent: usize) {
         self.seen[number as usize] += 1;
         self.line.push_str(&format!(" {number}@{place}"));
-        self.digest = self.words[..lent].iter().fold(self.digest, |digest, &word| mix(digest, word));
+        self.digest_words(lent);
+    }
+
+    /// Of a table: its number and how many lines there are, and all the numbers that are lent go into the digest.
+    fn told_table(&mut self, (number, count): Answer) {
+        self.seen[number as usize] += 1;
+        self.line.push_str(&format!(" {number}@{count}"));
+        self.digest = self.table.iter().fold(self.digest, |digest, &number| mix(digest, number as u64));
     }
 
     /// Of a query: where the part lies or the place it tells, its step, and the low half of a digest of the part's bytes. A
@@ -163,10 +196,42 @@ impl Case {
         found
     }
 
-    /// A record of one byte more than the limit, asked for `$` and then opened. It is too long to be written down.
+    /// The line table of the record.
+    pub fn make_table(&mut self, flag: u8) -> Answer {
+        self.head(b'N', flag, 0, 0, 0);
+        let n = self.lent_bytes(flag);
+        let answer = lines::table(&self.record[..n], &mut self.table);
+        self.told_table(answer);
+        answer
+    }
+
+    /// A line of the lent table indexed, whoever made that table.
+    pub fn index_line(&mut self, flag: u8, levels: usize, line: usize) -> Indexed {
+        self.head(b'I', flag, levels, 0, line as u64);
+        let (n, lent) = (self.lent_bytes(flag), self.lent_words(flag));
+        let indexed = lines::index(&self.record[..n], &self.table, line, &mut self.words[..lent], levels);
+        let Indexed { number, place, line } = indexed;
+        self.seen[number as usize] += 1;
+        self.line.push_str(&format!(" {number}@{place}+{line}"));
+        self.digest_words(lent);
+        indexed
+    }
+
+    pub fn next_line(&mut self, flag: u8, from: usize) -> Option<Line> {
+        self.head(b'F', flag, 0, 0, from as u64);
+        let next = lines::next(&self.record[..self.lent_bytes(flag)], from);
+        let (start, end) = next.unwrap_or((0, 0));
+        self.seen[0] += 1;
+        self.line.push_str(&format!(" 0@{start}+{end}"));
+        next
+    }
+
+    /// A record of one byte more than the limit: its line table, then asked for `$`, then opened. It is too long to be written down.
     pub fn beyond(&mut self, levels: usize) {
         self.head(b'B', 0, levels, 0, 0);
         let record = vec![b' '; 16_777_217];
+        let tabled = lines::table(&record, &mut self.table);
+        self.told_table(tabled);
         self.told_part(query(&record, &self.words, levels, b"$"), &record);
         let (answer, job) = open(&record, &self.words, levels, &[64]);
         self.job = job;
@@ -228,5 +293,42 @@ mod tests {
         assert!(told[0].starts_with("0@2/0+1:") && !told[0].ends_with(":00000000"), "{}", told[0]);
         assert_eq!(told[1..], ["29@4/1+0:00000000", "23@1/1+0:00000000", "20@2/0+0:00000000", "22@0/0+0:00000000"]);
         assert_eq!(queries(&case.line), [(0, 0), (29, 1), (23, 1), (20, 0), (22, 0)]);
+    }
+    #[test]
+    fn what_the_calls_of_lines_tell() {
+        let mut case = Case::new();
+        case.set_record(b"[1]\n \n]\n");
+        case.set_words(5, 1);
+        case.set_table(&[7, 258, 9]);
+        assert_eq!(case.calls[case.calls.len() - 40..][..8], [b'G', 0, 0, 0, 24, 0, 0, 0]);
+        assert_eq!(case.calls[case.calls.len() - 16..], [2, 1, 0, 0, 0, 0, 0, 0, 9, 0, 0, 0, 0, 0, 0, 0]);
+        case.make_table(0);
+        case.set_table(&[0; 5]);
+        case.make_table(0);
+        for line in [0, 1, usize::MAX] {
+            case.index_line(SHORT_WORDS, 1, line);
+        }
+        assert_eq!(case.calls[case.calls.len() - 16..], [b'I', 4, 1, 0, 0, 0, 0, 0, 255, 255, 255, 255, 255, 255, 255, 255]);
+        for from in [1, 3, 7] {
+            case.next_line(SHORT_RECORD, from);
+        }
+        assert_eq!(case.calls[case.calls.len() - 16..], [b'F', 2, 0, 0, 0, 0, 0, 0, 7, 0, 0, 0, 0, 0, 0, 0]);
+        assert_eq!(case.line, " 31@0 0@2 0@0+0 13@0+1 1@0+0 0@1+3 0@6+7 0@0+0");
+        assert_eq!((case.table, case.seen[31]), (vec![0, 3, 6, 7, 0], 1));
+    }
+
+    /// The digest goes on from the words of a line, or from the numbers of a table, each a word.
+    #[test]
+    fn what_goes_into_the_digest() {
+        let mut case = Case::new();
+        case.set_record(b"7\n");
+        case.set_words(5, 1);
+        case.set_table(&[5, 6, 8]);
+        case.make_table(0);
+        let tabled = [0, 1, 8].into_iter().fold(0, mix);
+        assert_eq!(case.digest, tabled);
+        case.next_line(0, 0);
+        case.index_line(SHORT_WORDS, 1, 0);
+        assert_eq!(case.digest, [0, 0, 0, 0].into_iter().fold(tabled, mix));
     }
 }

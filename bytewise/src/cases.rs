@@ -1,9 +1,11 @@
 //! Which cases there are: the reports of the documents, a list for each thing that has gone wrong before, lists of misses and
-//! broken items, random ones, runs that stray, and names spelt anew.
+//! broken items, random ones, runs that stray, names spelt anew, and lines.
 
 use crate::broken;
+use crate::byline;
 use crate::case::{size, Case, SHORT_RECORD, SHORT_WORDS};
 use crate::job::{State, Step};
+use crate::line_reports;
 use crate::random::Random;
 use crate::records::{self, brackets, damaged, deep, json, noise, path, wrapped, Text};
 use crate::reports;
@@ -327,10 +329,11 @@ fn random_case(random: &mut Random) -> Case {
     case
 }
 
-/// A record above the limit: 2, by a query and by an opening.
+/// A record above the limit: 2, by a line table, by a query and by an opening.
 fn beyond() -> Case {
     let mut case = Case::new();
     case.set_words(8, 3);
+    case.set_table(&[5, 6, 7]);
     case.beyond(1);
     case.ask(0);
     case.close(0);
@@ -384,8 +387,8 @@ fn repeated(text: &[u8], times: usize) -> Vec<u8> {
     record
 }
 
-/// The cases of every list, and so many random ones; behind them those of runs that stray and those of names spelt anew, which
-/// draw from numbers of their own.
+/// The cases of every list, and so many random ones; behind them those of runs that stray, those of names spelt anew and those of
+/// lines, each of which draw from numbers of their own.
 pub fn all(seed: u64, count: usize, with_beyond: bool) -> impl Iterator<Item = Case> {
     let mut random = Random::new(seed);
     let mut listed = reports::cases();
@@ -400,7 +403,8 @@ pub fn all(seed: u64, count: usize, with_beyond: bool) -> impl Iterator<Item = C
     listed.extend(broken::all());
     let randomly = (0..count).map(move |_| random_case(&mut random));
     let of_names = reports::cases_of_request_two().into_iter().chain(spelt::all(seed, count / 8));
-    listed.into_iter().chain(randomly).chain(strays::all(seed, count / 8)).chain(of_names)
+    let of_lines = line_reports::cases().into_iter().chain(byline::all(seed, count / 8));
+    listed.into_iter().chain(randomly).chain(strays::all(seed, count / 8)).chain(of_names).chain(of_lines)
 }
 
 #[cfg(test)]

@@ -5,11 +5,14 @@
 #![allow(clippy::explicit_auto_deref)]
 
 pub mod broken;
+pub mod byline;
 pub mod case;
 pub mod cases;
 pub mod contract;
 pub mod handed;
 pub mod job;
+pub mod line_reports;
+pub mod lines;
 pub mod names;
 pub mod path;
 pub mod random;

@@ -2,9 +2,9 @@
 //! of, and from the contracts where a run strays. The literal numbers of the documents are asserted at every start.
 //!
 //!   bytewise cases SEED COUNT CALLS LINES [beyond]   writes the calls of the listed cases, of COUNT random ones, of an
-//!                                                    eighth as many that stray and as many with names spelt anew, and
-//!                                                    the lines that `trial` must print for them; tells what it made.
-//!                                                    `beyond`: with a record above the limit, too
+//!                                                    eighth as many that stray, as many with names spelt anew and as many
+//!                                                    of texts of lines, and the lines that `trial` must print for them;
+//!                                                    tells what it made. `beyond`: with a record above the limit, too
 //!   bytewise inputs SEED COUNT FOLDER                writes inputs for `show`, N.input, and its lines, N.line
 
 use bytewise::{cases, path, reports};
@@ -12,7 +12,7 @@ use std::fs::File;
 use std::io::{BufWriter, Write};
 
 /// The numbers of the table, and those that no answer had. 2 wants a record above the limit.
-const NUMBERS: [usize; 28] = [0, 1, 2, 3, 4, 5, 6, 7, 8, 9, 10, 11, 12, 13, 14, 15, 16, 20, 21, 22, 23, 24, 25, 26, 27, 28, 29, 30];
+const NUMBERS: [usize; 29] = [0, 1, 2, 3, 4, 5, 6, 7, 8, 9, 10, 11, 12, 13, 14, 15, 16, 20, 21, 22, 23, 24, 25, 26, 27, 28, 29, 30, 31];
 
 fn missing(seen: &[u64; 32], beyond: bool) -> Vec<usize> {
     NUMBERS.into_iter().filter(|&number| (beyond || number != 2) && seen[number] == 0).collect()

@@ -1,11 +1,12 @@
 //! Section 'Reports to try' of the scope, and what else it shows by example, in its literal numbers and as request One amends
-//! them; and the sentences of requests One and Two, worked out by hand on small records. Whatever is read here is from the
-//! documents and never from a program's answer. A case of a report asserts it, so that a misreading is noticed also where both
-//! programs share it.
+//! them; and the sentences of requests One and Two, worked out by hand on small records (line_reports.rs has those of Three).
+//! Whatever is read here is from the documents and never from a program's answer. A case of a report asserts it, so that a
+//! misreading is noticed also where both programs share it.
 
 use std::fmt::Debug;
 
 use crate::case::Case;
+use crate::line_reports;
 use crate::path::{line, part, refused, told, Found};
 use crate::records::brackets;
 use crate::rules::{truth, width, Fault};
@@ -312,6 +313,7 @@ fn check_lines() {
 /// Every literal of the documents.
 pub fn check() {
     check_lines();
+    line_reports::cases();
     for report in all() {
         report.cases();
     }

@@ -1,5 +1,5 @@
-//! One table of ratios from one run: what an index, a query, a small job and a whole program cost, and beside what. Each
-//! contestant has one turn a round, and its cell is the smallest of its turns. Nothing here asserts a time.
+//! One table of ratios from one run: what an index, a query, a small job, a text of lines and a whole program cost, and beside
+//! what. Each contestant has one turn a round, and its cell is the smallest of its turns. Nothing here asserts a time.
 
 use std::cell::RefCell;
 use std::ffi::OsStr;
@@ -10,7 +10,7 @@ use std::time::{Duration, Instant};
 
 use bytewise::rules::{self, Bitmap};
 use wararish::sample::{self, Style};
-use wararish::{plan, words_needed, Call, Index, Report};
+use wararish::{line_in, plan, table_in, words_needed, Call, Index, Lines, Report};
 
 const SIZE: usize = 16_777_216;
 const LEVELS: usize = 4;
@@ -34,12 +34,15 @@ const INDEX_ROWS: &[(&str, Way)] = &[
     ("bytewise, byte by byte", Way::Bytewise),
 ];
 
-/// The rows of queries by name, each with the names of its object and how they are spelt. 'times' is told by the first.
-const NAME_ROWS: &[(&str, fn() -> Vec<String>, Spelling)] = &[
+/// The rows of queries by name. 'times' is told by the first.
+const NAME_ROWS: &[NameRow] = &[
     ("20,000 members", many_names, Spelling::Plain),
     ("20,000 members, escapes", many_names, Spelling::Escapes),
     ("12 members", few_names, Spelling::Plain),
 ];
+
+/// What it is called, the names of its object, and how they are spelt.
+type NameRow = (&'static str, fn() -> Vec<String>, Spelling);
 
 /// With a number behind it, up to 19,999, each is a name of 4 to 24 bytes.
 const STEMS: [&str; 7] =
@@ -59,6 +62,7 @@ fn main() {
     query_table(compact, one_chunk);
     name_table();
     job_table();
+    lines_table();
     program_table(compact);
 }
 
@@ -322,6 +326,84 @@ fn job_table() {
     println!();
     print_head("small job", &["ns"]);
     print_row("64 bytes, one chunk", &[smallest[0].as_nanos().to_string()]);
+}
+
+/// A text of lines, the table that is lent for it, and the same bytes as one record: an array with a comma for each line feed.
+struct Text {
+    bytes: Vec<u8>,
+    lines: usize,
+    table: Vec<usize>,
+    words: Vec<u64>,
+    record: Vec<u8>,
+}
+
+impl Text {
+    fn new() -> Text {
+        // the record has a byte more than the text
+        let bytes = sample::lines(SIZE - 1);
+        let lines = Lines::new(&bytes).expect("a made text has a size that is allowed");
+        let words = vec![0; lines.words_needed(LEVELS)];
+        let items = lines.iter().collect::<Vec<_>>().join(&b',');
+        let record = [b"[", &items[..], b"]"].concat();
+        assert_eq!(record.len(), bytes.len() + 1, "each line has its line feed, and none is blank");
+        Text { lines: lines.len(), table: vec![0; 2 * lines.len()], words, record, bytes }
+    }
+
+    fn make_table(&mut self) {
+        assert_eq!(table_in(black_box(&self.bytes), &mut self.table), Ok(self.lines));
+    }
+
+    /// All lines, one after another in the same words; `look` sees each line's bytes and words.
+    fn index_lines(&mut self, look: impl Fn(&[u8], &[u64])) {
+        for line in 0..self.lines {
+            let index = line_in(&self.bytes, &self.table, line, LEVELS, &mut self.words).expect("the line is sound");
+            look(index.record(), index.words());
+        }
+    }
+}
+
+/// The contestants: the table alone, the table and all lines, and the one record.
+fn lines_contestants<'a>(text: &'a RefCell<Text>, plan: &'a Plan, record: &'a [u8]) -> Vec<Contestant<'a>> {
+    let mut lent = vec![0; words_needed(LEVELS, record.len())];
+    let one_record = move || {
+        let (took, index) = timed(|| plan.index(black_box(record), std::mem::take(&mut lent)));
+        lent = index.into_words();
+        took
+    };
+    let table = || timed(|| text.borrow_mut().make_table()).0;
+    let all_lines = || {
+        let text = &mut *text.borrow_mut();
+        let work = || {
+            text.make_table();
+            text.index_lines(|_, words| {
+                black_box(words);
+            });
+        };
+        timed(work).0
+    };
+    vec![Contestant::new(ROUNDS, table), Contestant::new(ROUNDS, all_lines), Contestant::new(ROUNDS, one_record)]
+}
+
+fn lines_table() {
+    let mut text = Text::new();
+    text.make_table();
+    text.index_lines(|line, words| assert!(words == rules::index(line, LEVELS).1, "other words than bytewise"));
+    let record = std::mem::take(&mut text.record);
+    let (lines, bytes) = (text.lines, text.bytes.len());
+    let text = RefCell::new(text);
+    let smallest = race(lines_contestants(&text, &Plan::one_chunk(record.len()), &record));
+    let [table, all_lines, one_record] = smallest[..] else { unreachable!("there are three contestants") };
+    let each = |took: Duration| 1e6 * ms(took) / lines as f64;
+    println!();
+    print_head("text of lines", &["ms", "share", "ns a line"]);
+    for (name, took) in [("table", table), ("table, and index of each line", all_lines), ("one record", one_record)] {
+        let share = format!("{:.2}", ratio(took, one_record));
+        print_row(name, &[format!("{:.2}", ms(took)), share, format!("{:.0}", each(took))]);
+    }
+    let job = format!("{:.0}", each(all_lines) - each(table) - each(one_record));
+    print_row("a line's job beside its bytes", &[String::new(), String::new(), job]);
+    println!("{lines} lines, {bytes} bytes; one record: the same as an array, its index made in one chunk.");
+    println!("share: this time by that of one record; a line's job: the second row less the first and the third.");
 }
 
 /// A program that is asked the same about the same file, the first ours. No command: it is not installed.

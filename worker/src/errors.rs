@@ -1,4 +1,5 @@
-//! What an index and a path can be refused for: the numbers of the scope's table, as enums that print as sentences.
+//! What an index, a path and a table of lines can be refused for: the numbers of the scope's table, as types that print as
+//! sentences.
 
 use std::error::Error;
 use std::fmt;
@@ -27,7 +28,7 @@ pub enum IndexError {
     TooLong,
     /// 3
     Levels,
-    /// 4: this library lends as many words as are needed, so none of its functions gives it.
+    /// 4: a line needs more words than are lent. A report never has it: the library lends as many as are needed.
     Words,
     /// 5
     TooManyCuts,
@@ -37,6 +38,27 @@ pub enum IndexError {
     StepLeftOut,
     /// 13 to 16: the record's first fault, and its place in the record.
     Fault(FaultKind, usize),
+}
+
+/// Why a text has no table of lines.
+#[derive(Clone, Copy, Debug, PartialEq, Eq)]
+#[non_exhaustive]
+pub enum LinesError {
+    /// 1
+    Empty,
+    /// 2
+    TooLong,
+    /// 31: more lines than the lent table has entries.
+    TooManyLines,
+}
+
+/// Why a line of a table has no index. Nothing of it depends on another line.
+#[derive(Clone, Copy, Debug, PartialEq, Eq)]
+pub struct LineError {
+    /// The line's number in the table, from 0.
+    pub line: usize,
+    /// 1 to 4, or the line's first fault, whose place is counted in the line.
+    pub error: IndexError,
 }
 
 /// What a step misses in the value it works in.
@@ -172,6 +194,42 @@ impl IndexError {
     }
 }
 
+impl LinesError {
+    /// What the making of a table told: nothing where it is done.
+    pub(crate) fn told(number: u64) -> Result<(), LinesError> {
+        Err(match number {
+            0 => return Ok(()),
+            1 => LinesError::Empty,
+            2 => LinesError::TooLong,
+            31 => LinesError::TooManyLines,
+            _ => unreachable!("a table is made, or refused with 1, 2 or 31, not {number}"),
+        })
+    }
+
+    pub fn number(self) -> u64 {
+        match self {
+            LinesError::Empty => 1,
+            LinesError::TooLong => 2,
+            LinesError::TooManyLines => 31,
+        }
+    }
+}
+
+impl LineError {
+    pub fn number(self) -> u64 {
+        self.error.number()
+    }
+
+    /// A fault's place in the line; else 0.
+    pub fn place(self) -> usize {
+        self.error.place()
+    }
+
+    pub fn is_fault(self) -> bool {
+        self.error.is_fault()
+    }
+}
+
 impl AskError {
     /// What a query over an index told: nothing where it has found a part.
     pub(crate) fn told(number: u64, place: usize, step: usize) -> Result<(), AskError> {
@@ -286,6 +344,37 @@ impl fmt::Display for IndexError {
     }
 }
 
+impl fmt::Display for LinesError {
+    fn fmt(&self, f: &mut fmt::Formatter) -> fmt::Result {
+        f.write_str(match self {
+            LinesError::Empty => "the text is empty",
+            LinesError::TooLong => "the text is above 16,777,216 bytes",
+            LinesError::TooManyLines => "the text has more lines than the table has entries",
+        })
+    }
+}
+
+/// A sentence about a line says so: whoever reads it may think of the whole text as the record.
+impl fmt::Display for LineError {
+    fn fmt(&self, f: &mut fmt::Formatter) -> fmt::Result {
+        write!(f, "line {} of the table: ", self.line)?;
+        match self.error {
+            IndexError::Empty => f.write_str("it is empty, or there is no such line"),
+            IndexError::TooLong => f.write_str("it is above 16,777,216 bytes"),
+            IndexError::Words => f.write_str("it needs more words than are lent"),
+            IndexError::Fault(kind, place) => {
+                match kind {
+                    FaultKind::StringOpen => f.write_str("a string is open at the end of the line")?,
+                    FaultKind::BracketOpen => f.write_str("a bracket is open at the end of the line")?,
+                    FaultKind::NothingOpen | FaultKind::TooDeep => kind.fmt(f)?,
+                }
+                write!(f, ", at byte {place} of the line")
+            }
+            other => other.fmt(f),
+        }
+    }
+}
+
 impl fmt::Display for AskError {
     fn fmt(&self, f: &mut fmt::Formatter) -> fmt::Result {
         match self {
@@ -301,6 +390,8 @@ impl fmt::Display for AskError {
 
 impl Error for IndexError {}
 impl Error for AskError {}
+impl Error for LinesError {}
+impl Error for LineError {}
 
 #[cfg(test)]
 mod tests {
@@ -343,6 +434,40 @@ mod tests {
             assert_eq!(sentence(number), format!("step 3: {why}, at byte 9"));
         }
         assert_eq!(AskError::told(29, 0, 0).unwrap_err().to_string(), "the record is blank all through");
+    }
+
+    #[test]
+    fn every_number_of_a_table_maps_to_a_variant_that_tells_it() {
+        let sentences = [
+            (1, "the text is empty"),
+            (2, "the text is above 16,777,216 bytes"),
+            (31, "the text has more lines than the table has entries"),
+        ];
+        for (number, sentence) in sentences {
+            let error = LinesError::told(number).unwrap_err();
+            assert_eq!((error.number(), error.to_string().as_str()), (number, sentence));
+        }
+        assert_eq!(LinesError::told(0), Ok(()));
+    }
+
+    #[test]
+    fn a_sentence_about_a_line_tells_its_number() {
+        let sentences = [
+            (1, "it is empty, or there is no such line"),
+            (2, "it is above 16,777,216 bytes"),
+            (3, "the levels are not 1 to 16"),
+            (4, "it needs more words than are lent"),
+            (13, "a bracket is closed that was not opened, at byte 9 of the line"),
+            (14, "a bracket is opened where 64 are open, at byte 9 of the line"),
+            (15, "a string is open at the end of the line, at byte 9 of the line"),
+            (16, "a bracket is open at the end of the line, at byte 9 of the line"),
+        ];
+        for (number, sentence) in sentences {
+            let error = LineError { line: 7, error: IndexError::told(number, 9).unwrap_err() };
+            assert_eq!(error.to_string(), format!("line 7 of the table: {sentence}"));
+            assert_eq!((error.number(), error.place()), (number, if number > 12 { 9 } else { 0 }));
+            assert_eq!(error.is_fault(), number > 12);
+        }
     }
 
     #[test]

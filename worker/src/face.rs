@@ -2,6 +2,8 @@
 //! and gives what it gives; none has a premise beyond the types.
 #![allow(unsafe_code)]
 
+use std::ops::Range;
+
 use crate::calls::Call;
 
 // As crates/face declares them, a slice being a pointer and a length. (include/wararish.h says the same to C.)
@@ -40,6 +42,25 @@ extern "C" {
         size: *mut usize,
         step: *mut usize,
     ) -> u64;
+    fn wararish_table(
+        text: *const u8,
+        text_length: usize,
+        table: *mut usize,
+        table_length: usize,
+        count: *mut usize,
+    ) -> u64;
+    fn wararish_line(
+        text: *const u8,
+        text_length: usize,
+        table: *const usize,
+        table_length: usize,
+        line: usize,
+        words: *mut u64,
+        words_length: usize,
+        levels: usize,
+        place: *mut usize,
+    ) -> u64;
+    fn wararish_next_line(text: *const u8, text_length: usize, from: usize, start: *mut usize, end: *mut usize) -> u64;
 }
 
 /// A number of the scope's table, and the value beside it.
@@ -112,4 +133,38 @@ pub fn query(text: &[u8], words: &[u64], levels: usize, path: &[u8]) -> QueryTol
         )
     };
     QueryTold { number, place, size, step }
+}
+
+/// The value beside the number is how many lines there are.
+pub fn table(text: &[u8], table: &mut [usize]) -> Told {
+    let mut count = 0;
+    // SAFETY: as in `run`; here the table is what is borrowed mutably.
+    let number = unsafe { wararish_table(text.as_ptr(), text.len(), table.as_mut_ptr(), table.len(), &mut count) };
+    (number, count)
+}
+
+pub fn line(text: &[u8], table: &[usize], line: usize, words: &mut [u64], levels: usize) -> Told {
+    let mut place = 0;
+    // SAFETY: as in `run`; the table is only read, and any numbers may stand in it.
+    let number = unsafe {
+        wararish_line(
+            text.as_ptr(),
+            text.len(),
+            table.as_ptr(),
+            table.len(),
+            line,
+            words.as_mut_ptr(),
+            words.len(),
+            levels,
+            &mut place,
+        )
+    };
+    (number, place)
+}
+
+pub fn next_line(text: &[u8], from: usize) -> Option<Range<usize>> {
+    let (mut start, mut end) = (0, 0);
+    // SAFETY: as in `run`; nothing but start and end is written.
+    let number = unsafe { wararish_next_line(text.as_ptr(), text.len(), from, &mut start, &mut end) };
+    (number != 0).then_some(start..end)
 }

@@ -11,17 +11,21 @@
 //! assert_eq!(miss.to_string(), "step 2: the array has no such number, at byte 11");
 //! # Ok::<(), Box<dyn std::error::Error>>(())
 //! ```
+//!
+//! A text with a report in each of its lines is cut into a table of them ([`Lines`]), and each is indexed by itself.
 #![deny(unsafe_code)]
 
 pub mod calls;
 pub mod digest;
 pub mod errors;
 mod face;
+pub mod lines;
 pub mod plan;
 mod random;
 pub mod report;
 pub mod sample;
 
 pub use calls::Call;
-pub use errors::{AskError, BrokenKind, FaultKind, IndexError, MissKind, Where};
+pub use errors::{AskError, BrokenKind, FaultKind, IndexError, LineError, LinesError, MissKind, Where};
+pub use lines::{line_in, next_line, table_in, table_needed, LineIndex, Lines};
 pub use report::{words_needed, Index, Report, Unindexed, LEVELS, LIMIT};

@@ -1,4 +1,4 @@
-//! The program `wararish`: asks reports for paths, indexes them, and makes some to try.
+//! The program `wararish`: asks reports, and texts line by line, for paths, indexes them, and makes some to try.
 #![deny(unsafe_code)]
 
 mod program;

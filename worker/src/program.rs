@@ -1,10 +1,12 @@
 //! The commands, and how they end.
 
+mod answer;
 mod arguments;
 mod ask;
 mod help;
 mod index;
 mod json;
+mod lines;
 mod out;
 mod progress;
 mod reading;
@@ -39,6 +41,7 @@ fn dispatch(mut arguments: Vec<OsString>) -> Result<Status, Stop> {
     match command.to_str() {
         Some("ask") => commanded(help::ASK, ask::OPTIONS, arguments, ask::run),
         Some("index") => commanded(help::INDEX, index::OPTIONS, arguments, index::run),
+        Some("lines") => commanded(help::LINES, lines::OPTIONS, arguments, lines::run),
         Some("sample") => commanded(help::SAMPLE, sample::OPTIONS, arguments, sample::run),
         Some("--help" | "-h") => print(help::PROGRAM),
         Some("--version" | "-V") => print(concat!("wararish ", env!("CARGO_PKG_VERSION"), "\n")),

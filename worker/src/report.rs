@@ -96,6 +96,13 @@ fn fitted(mut lent: Vec<u64>, needed: usize) -> Vec<u64> {
     lent
 }
 
+/// Where a path leads to in a record, by the words of its index.
+pub(crate) fn find(record: &[u8], words: &[u64], levels: usize, path: &[u8]) -> Result<Range<usize>, AskError> {
+    let told = face::query(record, words, levels, path);
+    AskError::told(told.number, told.place, told.step)?;
+    Ok(told.place..told.place + told.size)
+}
+
 impl<'r> Index<'r> {
     /// The part of the record that the path leads to. Names are compared by their characters, with their escapes read;
     /// of equal ones the first counts.
@@ -105,9 +112,7 @@ impl<'r> Index<'r> {
 
     /// Where that part lies in the record.
     pub fn find(&self, path: &[u8]) -> Result<Range<usize>, AskError> {
-        let told = face::query(self.record, &self.words, self.levels, path);
-        AskError::told(told.number, told.place, told.step)?;
-        Ok(told.place..told.place + told.size)
+        find(self.record, &self.words, self.levels, path)
     }
 
     pub fn record(&self) -> &'r [u8] {

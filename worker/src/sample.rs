@@ -1,4 +1,5 @@
-//! Made reports of an exact size, as a mastering encoder would write them, for tests, measurements and trying.
+//! Made reports of an exact size, as a mastering encoder would write them, and texts of lines as a preview encoder would, for
+//! tests, measurements and trying.
 
 use crate::random::Random;
 
@@ -35,6 +36,38 @@ pub fn frames(style: Style, size: usize) -> usize {
     made(style, size).1
 }
 
+/// A text of at most `size` bytes: a record of about 300 bytes for each frame, a line each, with a line feed behind the last
+/// too. The same size gives the same bytes, and another size the same lines, only more or fewer.
+pub fn lines(size: usize) -> Vec<u8> {
+    let mut pen = Pen::new(false, size);
+    let mut draw = Random(2025);
+    for number in 0.. {
+        let before = pen.place();
+        write_line(&mut pen, number, &mut draw);
+        if pen.bytes.len() > size {
+            pen.back_to(before);
+            break;
+        }
+    }
+    pen.bytes
+}
+
+fn write_line(pen: &mut Pen, number: usize, draw: &mut Random) {
+    pen.open(b'{');
+    write_number_and_timecode(pen, number);
+    pen.name("tiles");
+    pen.open(b'[');
+    for _ in 0..4 + draw.below(3) {
+        write_tile(pen, draw);
+    }
+    pen.close(b']');
+    pen.member("font", FONTS[draw.below(FONTS.len())]);
+    pen.member("note", &format!("\"{}\"", PHRASES[draw.below(PHRASES.len())]));
+    pen.member("held", if draw.below(50) == 0 { "true" } else { "false" });
+    pen.close(b'}');
+    pen.raw("\n");
+}
+
 fn made(style: Style, size: usize) -> (Vec<u8>, usize) {
     assert!(size >= SMALLEST, "a made report has at least {SMALLEST} bytes, and not {size}");
     let mut pen = Pen::new(style == Style::Indented, size);
@@ -69,12 +102,9 @@ fn write_head(pen: &mut Pen) {
 }
 
 fn write_frame(pen: &mut Pen, style: Style, number: usize, draw: &mut Random) {
-    let (seconds, picture) = (number / 24, number % 24);
-    let (hour, minute, second) = (1 + seconds / 3600, seconds / 60 % 60, seconds % 60);
     pen.item();
     pen.open(b'{');
-    pen.member("frame", &number.to_string());
-    pen.member("timecode", &format!(r#""{hour:02}:{minute:02}:{second:02}:{picture:02}""#));
+    write_number_and_timecode(pen, number);
     pen.name("tiles");
     pen.open(b'[');
     let tiles = if style == Style::Strings { 1 } else { 2 + draw.below(3) };
@@ -89,6 +119,13 @@ fn write_frame(pen: &mut Pen, style: Style, number: usize, draw: &mut Random) {
     pen.member("peak", &format!("-{}.{}", draw.below(60), 1 + draw.below(9)));
     pen.member("held", if draw.below(50) == 0 { "true" } else { "false" });
     pen.close(b'}');
+}
+
+fn write_number_and_timecode(pen: &mut Pen, number: usize) {
+    let (seconds, picture) = (number / 24, number % 24);
+    let (hour, minute, second) = (1 + seconds / 3600, seconds / 60 % 60, seconds % 60);
+    pen.member("frame", &number.to_string());
+    pen.member("timecode", &format!(r#""{hour:02}:{minute:02}:{second:02}:{picture:02}""#));
 }
 
 fn write_tile(pen: &mut Pen, draw: &mut Random) {
@@ -299,6 +336,19 @@ mod tests {
         assert_eq!(longest, Some(100_000), "no line feed outside the escapes");
         assert_eq!(count(&strings, br#""log":""#), frames(Style::Strings, 100_000));
         assert_eq!(report(Style::Strings, 100_000), strings, "the same each time");
+    }
+
+    #[test]
+    fn each_line_is_a_whole_record() {
+        let text = lines(1_000_000);
+        let records: Vec<&[u8]> = text.strip_suffix(b"\n").unwrap().split(|&byte| byte == b'\n').collect();
+        assert!(records.iter().all(|record| depth(record, false) == Ok(4)), "none has a line feed in it");
+        let each = text.len() / records.len();
+        assert!((280..=320).contains(&each), "{each} bytes on average");
+        assert!(1_000_000 - text.len() < 500, "{} bytes", text.len());
+        assert!(records[7].starts_with(br#"{"frame":7,"timecode":"01:00:00:07","tiles":[{"rate":"#));
+        assert_eq!(lines(1_000_000), text, "the same each time");
+        assert!(text.starts_with(&lines(2000)) && lines(100).is_empty());
     }
 
     #[test]

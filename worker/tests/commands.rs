@@ -501,6 +501,249 @@ fn index_refuses_levels_and_cuts() {
     refused(&["--cuts-at", "256"], &format!("cut 0 (from 0) {cut}"));
 }
 
+/// A fault in its second line, a blank line behind it, and a miss of `.rate` in the last.
+const TEXT: &[u8] = b"{\"frame\":1,\"rate\":24}\n{\"frame\":2,\"rate\":25]}\n\n{\"frame\":3,\"rote\":26}";
+
+const TEXT_FAULT: &str = concat!(
+    "wararish: standard input: line 1 of the table: a bracket is closed that was not opened, at byte 21 of the line, ",
+    "line 2, column 22 of the text (13)\n  {\"frame\":2,\"rate\":25]}\n                       ^\n"
+);
+
+const TEXT_MISS: &str = concat!(
+    "wararish: standard input: line 2 of the table: $.rate: step 1, .rate: the object has no such name, ",
+    "at byte 0 of the line, line 4, column 1 of the text (25)\n  {\"frame\":3,\"rote\":26}\n  ^\n"
+);
+
+#[test]
+fn lines_prints_each_verdict() {
+    assert_eq!(run(&["lines", "-"], TEXT), ended(2, "0 sound\n1 faulty 13 21\n2 sound\n", TEXT_FAULT));
+    let room = Room::new("verdicts");
+    let file = room.file("text", TEXT);
+    let said = TEXT_FAULT.replace("standard input", &file);
+    assert_eq!(run(&["lines", &file], b""), ended(2, "0 sound\n1 faulty 13 21\n2 sound\n", &said));
+    assert_eq!(run(&["lines", "-"], b"[1]\n7\n\"x\"\n{]\n"), ended(0, "0 sound\n1 sound\n2 sound\n3 sound\n", ""));
+}
+
+#[test]
+fn lines_prints_each_value() {
+    let said = [TEXT_FAULT, TEXT_MISS].concat();
+    assert_eq!(run(&["lines", "-", "$.rate"], TEXT), ended(2, "24\n\n\n", &said));
+    assert_eq!(run(&["lines", "-", "$.frame"], TEXT), ended(2, "1\n\n3\n", TEXT_FAULT));
+    assert_eq!(run(&["lines", "-", "$"], b" [1, 2]\t\n\"x\"\n"), ended(0, "[1, 2]\n\"x\"\n", ""));
+    assert_eq!(run(&["lines", "/dev/stdin", "$[1]"], b"[1,[2]]\n[3,4]"), ended(0, "[2]\n4\n", ""));
+}
+
+#[test]
+fn lines_where_prints_places_in_the_line() {
+    let said = [TEXT_FAULT, TEXT_MISS].concat();
+    assert_eq!(run(&["lines", "--where", "-", "$.rate"], TEXT), ended(2, "0 18 20 0\n13 21 21 0\n25 0 0 1\n", &said));
+}
+
+#[test]
+fn lines_json_prints_an_object_a_line() {
+    let told = |rest: &str| format!("\"path\":\"$.rate\",{rest}}}\n");
+    let out = [
+        r#"{"line":0,"line_start":0,"line_end":21,"#,
+        &told(r#""number":0,"start":18,"end":20,"step":0,"value":"24","message":"found""#),
+        r#"{"line":1,"line_start":22,"line_end":44,"#,
+        r#""path":"$.rate","number":13,"start":21,"end":21,"step":0,"value":null,"#,
+        "\"message\":\"a bracket is closed that was not opened, at byte 21\"}\n",
+        r#"{"line":2,"line_start":46,"line_end":67,"#,
+        r#""path":"$.rate","number":25,"start":0,"end":0,"step":1,"value":null,"#,
+        "\"message\":\"step 1: the object has no such name, at byte 0\"}\n",
+    ];
+    let said = [TEXT_FAULT, TEXT_MISS].concat();
+    assert_eq!(run(&["lines", "--json", "-", "$.rate"], TEXT), ended(2, &out.concat(), &said));
+    let out = [
+        r#"{"line":0,"line_start":0,"line_end":21,"number":0,"place":0,"verdict":"sound"}"#,
+        r#"{"line":1,"line_start":22,"line_end":44,"number":13,"place":21,"verdict":"fault 13 at 21"}"#,
+        r#"{"line":2,"line_start":46,"line_end":67,"number":0,"place":0,"verdict":"sound"}"#,
+    ];
+    assert_eq!(run(&["lines", "--json", "-"], TEXT), ended(2, &(out.join("\n") + "\n"), TEXT_FAULT));
+}
+
+#[test]
+fn lines_may_end_with_a_carriage_return() {
+    let text = b"{\"a\":1}\r\n\r\n{\"a\":[2\r\n{\"a\":3 }\r\n";
+    let bracket = "a bracket is open at the end of the line, at byte 8 of the line, line 3, column 9 of the text (16)";
+    let said = format!("wararish: standard input: line 1 of the table: {bracket}\n  {{\"a\":[2.\n          ^\n");
+    assert_eq!(run(&["lines", "-", "$.a"], text), ended(2, "1\n\n3\n", &said));
+    assert_eq!(run(&["lines", "--where", "-", "$"], b"[1]\r\n"), ended(0, "0 0 3 0\n", ""));
+    // it ends no line by itself
+    assert_eq!(run(&["lines", "--json", "-"], b"[1]\r[2]\r").1.lines().count(), 1);
+}
+
+#[test]
+fn a_line_feed_in_a_string_cuts_it() {
+    let text = b"[1]\n[\"x\ny\"]\n[2]\n";
+    let half = |line: usize, half: &str| {
+        let sentence = "a string is open at the end of the line, at byte 3 of the line";
+        let place = format!("line {}, column 4 of the text", line + 1);
+        format!("wararish: standard input: line {line} of the table: {sentence}, {place} (15)\n  {half}\n     ^\n")
+    };
+    let said = [half(1, "[\"x"), half(2, "y\"]")];
+    assert_eq!(run(&["lines", "-", "$[0]"], text), ended(2, "1\n\n\n2\n", &said.concat()));
+    let rows = "0 sound\n1 faulty 15 3\n2 faulty 15 3\n3 sound\n";
+    assert_eq!(run(&["lines", "-"], text), ended(2, rows, &said.concat()));
+}
+
+#[test]
+fn texts_without_lines() {
+    for blank in [&b" "[..], b"\n", b"\r\n\t\r\n  \n\n", &[b'\n'; 1000]] {
+        for words in [&["lines", "-"][..], &["lines", "-", "$.a"], &["lines", "--json", "-"]] {
+            assert_eq!(run(words, blank), ended(0, "", ""));
+        }
+    }
+    for words in [&["lines", "-"][..], &["lines", "-", "$"], &["lines", "--json", "-"]] {
+        assert_eq!(run(words, b""), ended(2, "", "wararish: standard input: the text is empty (1)\n"));
+    }
+}
+
+#[test]
+fn the_limit_holds_for_the_whole_text() {
+    let mut text = b"[1,\"0123\"]\n".repeat(LIMIT / 11);
+    text.resize(LIMIT, b' ');
+    let (status, out, said) = run(&["lines", "-", "$[0]"], &text);
+    assert!((status, said.as_str()) == (0, "") && out == "1\n".repeat(LIMIT / 11), "{status} {said}");
+    text.push(b'\n');
+    let long = "wararish: standard input: the text is above 16,777,216 bytes (2)\n";
+    assert_eq!(run(&["lines", "-", "$[0]"], &text), ended(2, "", long));
+    assert_eq!(run(&["lines", "/dev/zero"], b"").0, 2, "it has no end");
+}
+
+#[test]
+fn lines_ends_with_the_greatest_status() {
+    let status = |text: &[u8]| run(&["lines", "-", "$.a"], text).0;
+    assert_eq!(status(b"{\"a\":1}\n{\"a\":2}"), 0);
+    assert_eq!(status(b"{\"a\":1}\n{}\n{\"a\":2}"), 1);
+    assert_eq!(status(b"{\"a\":}\n{}\n{\"a\":2}"), 2);
+    assert_eq!(status(b"[]\n{\"a\":1\n"), 2);
+    assert_eq!(run(&["lines", "-"], b"{}\n{\"a\":}\n7").0, 0, "only a path meets a broken item");
+}
+
+#[test]
+fn a_broken_item_is_told_in_its_line() {
+    let text = "\n{\"a\":{\"b\":1}}\n \n  {\"a\":{\"c\":0, \"b\" 2}}\n{\"a\":{\"b\":3}}\n";
+    let sentence = "a broken item without a colon, at byte 14 of the line, line 4, column 15 of the text (27)";
+    let said = format!("wararish: standard input: line 1 of the table: $.a.b: step 2, .b: {sentence}\n");
+    let window = "    {\"a\":{\"c\":0, \"b\" 2}}\n                ^\n";
+    assert_eq!(run(&["lines", "-", "$.a.b"], text.as_bytes()), ended(2, "1\n\n3\n", &(said + window)));
+}
+
+#[test]
+fn a_long_line_is_shown_around_its_place() {
+    let line = format!("{{\"a\":\"{}\"", "x".repeat(100));
+    let text = format!("[]\n{line}\n[]\n");
+    let bracket = "a bracket is open at the end of the line, at byte 107 of the line";
+    let shown = format!("line 2, column 108 of the text (16)\n  {}\"\n  {}^\n", "x".repeat(29), " ".repeat(30));
+    let said = format!("wararish: standard input: line 1 of the table: {bracket}, {shown}");
+    assert_eq!(run(&["lines", "-"], text.as_bytes()), ended(2, "0 sound\n1 faulty 16 107\n2 sound\n", &said));
+}
+
+#[test]
+fn lines_refuses_a_path_before_all_else() {
+    let refused = |words: &[&str], why: &str| {
+        let said = format!("wararish: {why}\n");
+        let command = [&["lines"], words].concat();
+        assert_eq!(run(&command, b"[1]\n]\n"), ended(64, "", &said), "{words:?}");
+    };
+    let none = "$.a[01]: this is no path, from byte 5 of it on (20)\n  $.a[01]\n       ^";
+    refused(&["-", "$.a[01]"], none);
+    refused(&["--json", "-", "$.a[01]"], none);
+    refused(&["/no/such/file", "$.a[01]"], none);
+    let large = "the path is above 1,024 bytes, or a number in it above 16,777,215 (21)";
+    refused(&["-", "$[16777216]"], &format!("$[16777216]: {large}"));
+    let steps = "the path has more steps than the index has levels (22)";
+    refused(&["--levels", "1", "-", "$[0][1]"], &format!("$[0][1]: {steps}"));
+    let long = format!("${}", "[0]".repeat(17));
+    refused(&["-", &long], &format!("{long}: {steps}"));
+    refused(&["--levels", "16", "-", &long], &format!("{long}: {steps}"));
+}
+
+#[test]
+fn lines_has_as_many_levels_as_are_asked_for() {
+    let deep = [vec![b'['; 17], b"7".to_vec(), vec![b']'; 17]].concat();
+    let path = format!("${}", "[0]".repeat(16));
+    assert_eq!(run(&["lines", "-", &path], &deep), ended(0, "[7]\n", ""));
+    assert_eq!(run(&["lines", "--levels", "16", "-", "$[0]"], b"[[1]]\n[2]"), ended(0, "[1]\n2\n", ""));
+    assert_eq!(run(&["lines", "--levels=2", "-", "$[0][0]"], b"[[1]]"), ended(0, "1\n", ""));
+    assert_eq!(run(&["lines", "--levels", "16", "-"], b"[[1]]\n]").1, "0 sound\n1 faulty 13 0\n");
+}
+
+/// Lines of many kinds; what is made may itself have line feeds in it.
+fn any_lines(random: &mut Random, count: usize) -> Vec<u8> {
+    let mut text = Vec::new();
+    for _ in 0..count {
+        let room = 1 + random.below(120);
+        let json = records::json(random, room);
+        let made = match random.below(6) {
+            0 => records::damaged(random, json),
+            1 => records::broken(random, json),
+            2 => records::noise(random, room),
+            _ => json,
+        };
+        match random.below(3) {
+            0 => text.extend_from_slice(&made.bytes),
+            _ => text.extend_from_slice(&[b"{\"a\":", &made.bytes[..], b"}"].concat()),
+        }
+        text.extend_from_slice([&b"\n"[..], b"\r\n", b" \n\n"][random.below(3)]);
+    }
+    text
+}
+
+/// Where the lines lie that are not blank.
+fn spans(text: &[u8]) -> Vec<(usize, usize)> {
+    let mut start = 0;
+    let mut spans = Vec::new();
+    for line in text.split(|&byte| byte == b'\n') {
+        if line.iter().any(|byte| !b" \t\r".contains(byte)) {
+            spans.push((start, start + line.len()));
+        }
+        start += line.len() + 1;
+    }
+    spans
+}
+
+#[test]
+fn each_line_is_answered_as_ask_answers_it_alone() {
+    let text = any_lines(&mut Random::new(31), 1500);
+    let spans = spans(&text);
+    assert!(spans.len() > 2000, "{} lines", spans.len());
+    let forms = [&[][..], &["--where"], &["--json"]];
+    let by_lines = forms.map(|form| run_bytes(&[&["lines"], form, &["-", "$.a"]].concat(), &text));
+    let rows = by_lines.each_ref().map(|(_, out, _)| out.split(|&byte| byte == b'\n').collect::<Vec<_>>());
+    let (mut greatest, mut messages) = (0, 0);
+    for (i, &(start, end)) in spans.iter().enumerate() {
+        let (status, mut told, said) = run_bytes(&[&["ask"], forms[i % 3], &["$.a", "-"]].concat(), &text[start..end]);
+        assert_eq!(told.pop(), Some(b'\n'));
+        if i % 3 == 2 {
+            let about = format!("{{\"line\":{i},\"line_start\":{start},\"line_end\":{end},");
+            told.splice(..1, about.into_bytes());
+        }
+        assert!(rows[i % 3][i] == told, "line {i}: {}", String::from_utf8_lossy(&text[start..end]));
+        (greatest, messages) = (status.max(greatest), messages + said.matches("wararish: ").count());
+    }
+    for ((status, _, said), rows) in by_lines.iter().zip(&rows) {
+        assert_eq!((*status, rows.len(), rows[rows.len() - 1]), (greatest, spans.len() + 1, &b""[..]));
+        assert_eq!(said.matches("wararish: standard input: line ").count(), messages);
+    }
+    let kinds: HashSet<&[u8]> = rows[1].iter().map(|row| row.split(|&byte| byte == b' ').next().unwrap()).collect();
+    assert!(kinds.len() >= 9, "few kinds of answers: {}", kinds.len());
+}
+
+#[test]
+fn many_messages_tell_the_lines_of_the_text() {
+    let text = b"[1]\n\n]\n".repeat(3000);
+    let (status, out, said) = run(&["lines", "-"], &text);
+    assert_eq!((status, out.lines().count()), (2, 6000));
+    let heads: Vec<&str> = said.lines().step_by(3).collect();
+    assert_eq!(heads.len(), 3000);
+    for (k, head) in heads.iter().enumerate() {
+        assert!(head.starts_with(&format!("wararish: standard input: line {} of the table: ", 2 * k + 1)), "{head}");
+        assert!(head.ends_with(&format!(", line {}, column 1 of the text (13)", 3 * k + 3)), "{head}");
+    }
+}
+
 #[test]
 fn sample_makes_reports_of_a_size() {
     for style in ["compact", "indented", "strings"] {
@@ -526,7 +769,7 @@ fn help_and_version_are_results() {
     };
     assert!(help(&["--help"]).starts_with("usage: wararish ask"));
     assert_eq!(help(&["-h"]), help(&["--help"]));
-    for command in ["ask", "index", "sample"] {
+    for command in ["ask", "lines", "index", "sample"] {
         assert!(help(&[command, "--help"]).starts_with(&format!("usage: wararish {command} ")));
         assert_eq!(help(&[command, "x", "-h", "--nonsense"]), help(&[command, "--help"]));
     }
@@ -548,6 +791,14 @@ fn wrong_use_is_told() {
     wrong(&["ask", "--where", "--json", "$", "-"], "--where and --json do not go together");
     wrong(&["ask", "--where", "--where", "$", "-"], "--where is given twice");
     wrong(&["ask", "--where=1", "$", "-"], "--where takes no value");
+    wrong(&["lines"], "FILE is missing");
+    wrong(&["lines", "-", "$", "more"], "there is one FILE and one PATH, so 'more' is too much");
+    wrong(&["lines", "--where", "-"], "--where needs a PATH");
+    wrong(&["lines", "--where", "--json", "-", "$"], "--where and --json do not go together");
+    for levels in ["0", "17", "x", "18446744073709551616"] {
+        let why = format!("--levels takes a number, 1 to 16, and not '{levels}'");
+        wrong(&["lines", "--levels", levels, "-"], &why);
+    }
     wrong(&["index"], "FILE is missing");
     wrong(&["index", "-", "more"], "there is one FILE, so 'more' is too much");
     wrong(&["index", "-", "--levels"], "--levels needs a value");
@@ -577,7 +828,7 @@ fn two_dashes_end_the_options() {
 fn files_that_cannot_be_read() {
     let room = Room::new("unread");
     let (folder, missing) = (room.path(""), room.path("missing"));
-    for command in [&["ask", "$"][..], &["index"]] {
+    for command in [&["ask", "$"][..], &["index"], &["lines"]] {
         let read = |file: &str| run(&[command, &[file]].concat(), b"");
         let directory = format!("wararish: {folder} cannot be read: it is a directory\n");
         assert_eq!(read(&folder), ended(66, "", &directory));
@@ -635,9 +886,13 @@ fn a_closed_output_ends_the_program_quietly() {
     let room = Room::new("closed");
     let (_, report, _) = run_bytes(&["sample", "--size", "1000000"], b"");
     let file = room.file("report", &report);
-    for words in [&["sample"][..], &["ask", "$", &file], &["ask", "--json", "$", &file]] {
+    let asked = [&["ask", "$", &file][..], &["ask", "--json", "$", &file], &["lines", &file, "$"]];
+    for words in asked.into_iter().chain([&["sample"][..]]) {
         assert_eq!(run_closed(words), (Some(0), String::new()), "{words:?}");
     }
+    let many = room.file("many", &[&b"[1]\n".repeat(100_000), &b"]"[..]].concat());
+    let (status, said) = run_closed(&["lines", &many]);
+    assert_eq!((status, said.lines().count()), (Some(2), 3), "{said}");
     let miss = "wararish: $.x: step 1, .x: the object has no such name, at byte 0, line 1, column 1 (25)";
     let told = format!("{miss}\n  {}\n  ^\n", String::from_utf8_lossy(&report[..30]));
     assert_eq!(run_closed(&["ask", "$", "$.x", &file]), (Some(1), told), "the status stays");
@@ -645,10 +900,14 @@ fn a_closed_output_ends_the_program_quietly() {
 
 #[test]
 fn an_output_that_is_full_is_told() {
-    let full = File::options().write(true).open("/dev/full").unwrap();
-    let output = Command::new(PROGRAM).arg("sample").stdout(full).output().unwrap();
-    let said = "wararish: the results cannot be written: No space left on device (os error 28)\n";
-    assert_eq!((output.status.code(), String::from_utf8(output.stderr).unwrap()), (Some(74), said.into()));
+    let room = Room::new("full");
+    let text = room.file("text", b"[1]\n[2]\n");
+    for words in [&["sample"][..], &["lines", &text]] {
+        let full = File::options().write(true).open("/dev/full").unwrap();
+        let output = Command::new(PROGRAM).args(words).stdout(full).output().unwrap();
+        let said = "wararish: the results cannot be written: No space left on device (os error 28)\n";
+        assert_eq!((output.status.code(), String::from_utf8(output.stderr).unwrap()), (Some(74), said.into()));
+    }
 }
 
 #[test]
@@ -658,9 +917,17 @@ fn arguments_need_not_be_utf_8() {
     let (status, _, said) = run_bytes(&words(&[b"ask", b"$.\xff", b"-"]), RECORD);
     let none = "wararish: $..: this is no path, from byte 2 of it on (20)\n  $..\n    ^\n";
     assert_eq!((status, said.as_str()), (64, none));
+    let (status, out, said) = run_bytes(&words(&[b"lines", b"-", b"$.\xff"]), RECORD);
+    assert_eq!((status, out.len(), said.as_str()), (64, 0, none));
     assert_eq!(run_bytes(&words(&[b"ask", b"$", b"/\xff"]), RECORD).0, 66);
-    let uses: [&[&[u8]]; 4] =
-        [&[b"\xff"], &[b"ask", b"--\xff", b"$", b"-"], &[b"index", b"--levels", b"\xff", b"-"], &[b"sample", b"\xff"]];
+    assert_eq!(run_bytes(&words(&[b"lines", b"/\xff", b"$"]), RECORD).0, 66);
+    let uses: [&[&[u8]]; 5] = [
+        &[b"\xff"],
+        &[b"ask", b"--\xff", b"$", b"-"],
+        &[b"index", b"--levels", b"\xff", b"-"],
+        &[b"lines", b"-", b"$", b"\xff"],
+        &[b"sample", b"\xff"],
+    ];
     for list in uses {
         let (status, out, said) = run_bytes(&words(list), RECORD);
         assert_eq!((status, out.len(), said.lines().count()), (64, 0, 1), "{said}");

@@ -1,11 +1,11 @@
-//! Reports of 16 MiB: one digest, whatever the cuts, the guesses and the order.
+//! Reports of 16 MiB: one digest, whatever the cuts, the guesses and the order; and texts of so many bytes, line by line.
 
 use std::collections::HashSet;
 
 use bytewise::rules;
 use wararish::plan::{self, Guesses, Order};
 use wararish::sample::{self, Style};
-use wararish::{digest, Report, LIMIT};
+use wararish::{digest, next_line, table_in, Lines, Report, LIMIT};
 
 const LEVELS: usize = 4;
 const ALL_GUESSES: [Guesses; 3] = [Guesses::Outside, Guesses::Inside, Guesses::Random];
@@ -79,4 +79,49 @@ fn a_fault_in_the_last_byte_leaves_every_word_zero() {
         assert_eq!((unindexed.error().number(), unindexed.error().place()), (16, LIMIT));
         assert!(unindexed.words().len() == 10 * LIMIT / 64 && unindexed.words().iter().all(|&word| word == 0));
     }
+}
+
+#[test]
+fn a_text_of_lines_gives_the_words_of_each_line_alone() {
+    let text = sample::lines(LIMIT);
+    let lines = Lines::new(&text).unwrap();
+    assert!(lines.len() > 50_000, "{} lines", lines.len());
+    let mut words = vec![!0; lines.words_needed(LEVELS)];
+    let mut from = 0;
+    for line in 0..lines.len() {
+        assert_eq!(next_line(&text, from), Some(lines.span(line)));
+        from = lines.span(line).end;
+        let index = lines.index_in(line, LEVELS, &mut words).unwrap();
+        assert_eq!(index.words(), rules::index(lines.line(line), LEVELS).1, "line {line}");
+        assert_eq!(index.ask(b"$.frame").unwrap(), line.to_string().as_bytes());
+    }
+    assert_eq!(next_line(&text, from), None);
+}
+
+#[test]
+fn a_fault_in_one_line_of_many_is_its_own() {
+    let mut text = sample::lines(LIMIT);
+    let faulty = Lines::new(&text).unwrap().len() - 2;
+    let span = Lines::new(&text).unwrap().span(faulty);
+    text[span.end - 1] = b' ';
+    let lines = Lines::new(&text).unwrap();
+    let mut words = vec![!0; lines.words_needed(LEVELS)];
+    let told = (faulty - 1..lines.len()).map(|line| match lines.index_in(line, LEVELS, &mut words) {
+        Ok(index) => (line, 0, index.find(b"$.frame").unwrap().start),
+        Err(error) => (error.line, error.number(), error.place()),
+    });
+    let expected = [(faulty - 1, 0, 9), (faulty, 16, span.len()), (faulty + 1, 0, 9)];
+    assert_eq!(told.collect::<Vec<_>>(), expected);
+}
+
+#[test]
+fn as_many_lines_as_there_can_be() {
+    let text = b"7\n".repeat(LIMIT / 2);
+    let mut table = vec![9; LIMIT + 1];
+    assert_eq!(table_in(&text, &mut table), Ok(LIMIT / 2));
+    assert!((0..LIMIT / 2).all(|line| table[2 * line..][..2] == [2 * line, 2 * line + 1]) && table[LIMIT] == 9);
+    table.fill(9);
+    let error = table_in(&text, &mut table[..LIMIT - 1]).unwrap_err();
+    assert!(error.number() == 31 && table.iter().all(|&number| number == 9));
+    assert_eq!(Lines::new(&text).unwrap().len(), LIMIT / 2);
 }

@@ -14,53 +14,23 @@ pub struct Classes {
     pub d: u64,
 }
 
-// What the table holds for a byte: a 1 in the lane of its class. Lanes of 16 bits: quotes and backslashes, or for levels colons and commas;
-// then openers and closers.
-fn entry_of(level: bool, b: usize) -> u64
-    ensures { λ r. ⌜ r ≡ entry (lanesFor level) b ⌝ }
-{
-    if b == 123 {
-        return 0x1_0000_0000;
-    }
-    if b == 91 {
-        return 0x1_0000_0000;
-    }
-    if b == 125 {
-        return 0x1_0000_0000_0000;
-    }
-    if b == 93 {
-        return 0x1_0000_0000_0000;
-    }
-    if level {
-        return two_of(b, 58, 44);
-    }
-    two_of(b, 34, 92)
-}
-
-fn two_of(b: usize, first: usize, second: usize) -> u64
-    requires { ⌜ (first ≡ second → ⊥) ⌝ }
-    ensures { λ r. ⌜ r ≡ digit (eqb b first) + 65536 * digit (eqb b second) ⌝ }
-{
-    if b == first {
-        return 1;
-    }
-    if b == second {
-        return 0x1_0000;
-    }
-    0
-}
-
-// Made once per step and lent down: a constant array would be copied at every use.
+// A byte's entry: a 1 in the lane of its class. Lanes of 16 bits: quotes and backslashes, or for levels colons and commas; then openers and
+// closers. Made once per step and lent down, since a constant array would be copied at every use; only the bytes that have a class are written.
 pub fn table(level: bool) -> [u64; 256]
     ensures { λ r. ⌜ TableOf (lanesFor level) r ⌝ }
 {
     let mut t = [0u64; 256];
-    let mut b: usize = 0;
-    while b < 256 {
-        let e = entry_of(level, b);
-        t[b] = e;
-        b += 1;
+    t[123] = 0x1_0000_0000;
+    t[91] = 0x1_0000_0000;
+    t[125] = 0x1_0000_0000_0000;
+    t[93] = 0x1_0000_0000_0000;
+    if level {
+        t[58] = 1;
+        t[44] = 0x1_0000;
+        return t;
     }
+    t[34] = 1;
+    t[92] = 0x1_0000;
     t
 }
 

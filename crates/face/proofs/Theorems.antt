@@ -14,8 +14,6 @@ use Rattle.rules.specs.Layout.{sizeOf, index}
 use Rattle.rules.proofs.Booleans.{impossible}
 use Rattle.index.specs.declared.Answer.{Answer}
 use Rattle.index.specs.declared.Answer.the-variants.{Done, Refused, Faulty}
-use Rattle.index.specs.declared.Fault.{Fault}
-use Rattle.index.specs.declared.Fault.the-variants.{Closer, Opener, InString, InBracket}
 use Rattle.index.specs.declared.Refusal.the-variants.{Early}
 use Rattle.index.specs.Answers.{faultNumber, refusalNumber, numberOf, placeOf, Check, checked, onDone}
 use Rattle.index.specs.Opening.{openChecks, opening}
@@ -27,7 +25,8 @@ use Rattle.runs.proofs.Theorems.{one-outcome, sound-closes}
 use Rattle.runs.proofs.Whole.{closed-or-early, done-exactly, whole-run, whole-sound, whole-faulty}
 use Rattle.runs.proofs.Plain.{plain-steps, plain-complete}
 use Rattle.whole.specs.Calls.{callOf, callsOf}
-use Rattle.face.specs.Outcomes.{RunTells}
+use Rattle.lines.proofs.VerdictLaws.{fault-range}
+use Rattle.face.specs.Outcomes.{RunTells, TableTells, LineTells, NextTells}
 
 -- a byte is a step, never a close
 pub bytes-steps : (calls : List ℕ) → stepsAlone (callsOf calls) ≡ true
@@ -45,6 +44,16 @@ bytes-steps (c ∷ cs) = go (eqb (c % 4) 0) (eqb (c % 4) 1) (eqb (c % 4) 2) (byt
 pub run-one : {text words cuts after then : List ℕ} {levels n m p q : ℕ} {calls : List Call} → RunTells text words levels cuts calls n p after → RunTells text words levels cuts calls m q then
     → (n ≡ m) × (p ≡ q) × (after ≡ then)
 run-one t u = (t .number-is ∙ sym (u .number-is), t .place-is ∙ sym (u .place-is), t .words-are ∙ sym (u .words-are))
+
+pub table-told : {text table after then : List ℕ} {n m p q : ℕ} → TableTells text table n p after → TableTells text table m q then → (n ≡ m) × (p ≡ q) × (after ≡ then)
+table-told t u = (t .number-is ∙ sym (u .number-is), t .count-is ∙ sym (u .count-is), t .table-is ∙ sym (u .table-is))
+
+pub line-told : {text table words after then : List ℕ} {line levels n m p q : ℕ} → LineTells text table line levels words n p after → LineTells text table line levels words m q then
+    → (n ≡ m) × (p ≡ q) × (after ≡ then)
+line-told t u = (t .number-is ∙ sym (u .number-is), t .place-is ∙ sym (u .place-is), t .words-are ∙ sym (u .words-are))
+
+pub next-told : {text : List ℕ} {from n m p q a b : ℕ} → NextTells text from n p a → NextTells text from m q b → (n ≡ m) × (p ≡ q) × (a ≡ b)
+next-told t u = (t .some-is ∙ sym (u .some-is), t .start-is ∙ sym (u .start-is), t .end-is ∙ sym (u .end-is))
 
 module _ (text words : List ℕ) (levels : ℕ) (cuts : List ℕ) where
   module _ (calls : List Call) {number place : ℕ} {after : List ℕ} (tells : RunTells text words levels cuts calls number place after) where
@@ -110,15 +119,9 @@ opening-low : (n w levels : ℕ) (cuts : List ℕ) → numberOf (opening n w lev
 unfolding lows opening openChecks
 opening-low n w levels cuts = checked-low (openChecks n w levels cuts) refl
 
-fault-numbers : (f : Fault) → (13 ≤ faultNumber f) × (faultNumber f ≤ 16)
-fault-numbers (Closer p) = (omega arith, omega arith)
-fault-numbers (Opener p) = (omega arith, omega arith)
-fault-numbers (InString p) = (omega arith, omega arith)
-fault-numbers (InBracket p) = (omega arith, omega arith)
-
 ends-numbers : {a : Answer} → Ends a → (numberOf a ≤ 6) ⊎ ((13 ≤ numberOf a) × (numberOf a ≤ 16))
 ends-numbers Ends.done = inl (omega arith)
-ends-numbers (Ends.fault f) = inr (fault-numbers f)
+ends-numbers (Ends.fault f) = inr (fault-range f)
 
 module _ (text words : List ℕ) (levels : ℕ) (cuts : List ℕ) (calls : List Call) {number place : ℕ} {after : List ℕ} (tells : RunTells text words levels cuts calls number place after) where
   -- by the opening's answer
@@ -162,7 +165,7 @@ module _ (text words : List ℕ) (levels : ℕ) (cuts : List ℕ) {number place 
 number-done : (a : Answer) → numberOf a ≡ 0 → a ≡ Done
 number-done Done e = refl
 number-done (Refused r) e = absurd (done-other r (sym e))
-number-done (Faulty f) e = absurd (omega (arith, e, fault-numbers f))
+number-done (Faulty f) e = absurd (omega (arith, e, fault-range f))
 
 module _ (text words : List ℕ) (levels : ℕ) (cuts calls : List ℕ) {number place : ℕ} {after : List ℕ} (accepted : opening (length text) (length words) levels cuts ≡ Done)
     (tells : RunTells text words levels cuts (callsOf calls) number place after) (s : faultOf text ≡ sound) where

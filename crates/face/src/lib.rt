@@ -3,7 +3,11 @@ ghost use Prim.Native.Nat.{_+_};
 ghost use lib.ListN.{length};
 ghost use Rattle.runs.specs.Whole.{plainly};
 ghost use Rattle.whole.specs.Calls.{callsOf};
-ghost use Rattle.face.specs.Outcomes.{RunTells, QueryTells};
+ghost use Rattle.face.specs.Outcomes.{RunTells, QueryTells, TableTells, LineTells, NextTells};
+use lines::Line;
+use lines::cutting::next_line;
+use lines::indexing::index_line;
+use lines::table::cut_lines;
 
 // Opens a job, makes the calls in their order, a byte each, and closes it. Tells the number and place of the close, or of the
 // opening's refusal.
@@ -57,4 +61,56 @@ pub extern "C" fn wararish_query(
     let part = query::query(text, words, levels, path, &mut number, place, step);
     *size = part.len();
     number
+}
+
+// Cuts a text into its lines, two numbers of the table each, and tells how many there are.
+#[no_mangle]
+pub extern "C" fn wararish_table(text: &[u8], table: &mut [usize], count: &mut usize) -> u64
+    ensures { λ r. ⌜ TableTells (now (text .entry)) (now (table .entry)) r (now (count .exit)) (now (table .exit)) ⌝ }
+{
+    let tabled = cut_lines(text, table);
+    *count = tabled.count();
+    tabled.number()
+}
+
+// Indexes one line of a table in the front of the words. (The line's number of a fault is the one that was handed in.)
+#[no_mangle]
+pub extern "C" fn wararish_line(
+    text: &[u8],
+    table: &[usize],
+    line: usize,
+    words: &mut [u64],
+    levels: usize,
+    place: &mut usize,
+) -> u64
+    ensures { λ r. ⌜ LineTells (now (text .entry)) (now (table .entry)) line levels (now (words .entry)) r (now (place .exit)) (now (words .exit)) ⌝ }
+{
+    let answer = index_line(text, table, line, words, levels);
+    *place = answer.place();
+    answer.number()
+}
+
+// The next line that is not blank: 1 and where it lies, or 0.
+#[no_mangle]
+pub extern "C" fn wararish_next_line(
+    text: &[u8],
+    from: usize,
+    start: &mut usize,
+    end: &mut usize,
+) -> u64
+    ensures { λ r. ⌜ NextTells (now (text .entry)) from r (now (start .exit)) (now (end .exit)) ⌝ }
+{
+    let next = next_line(text, from);
+    match next {
+        Line::At { start: s, end: e } => {
+            *start = s;
+            *end = e;
+            1
+        }
+        Line::End => {
+            *start = 0;
+            *end = 0;
+            0
+        }
+    }
 }

@@ -160,7 +160,7 @@ walk-unbroken text t d ss = let h = whole text t d in rw (h .is-part) (walked-un
 
 -- ---- by lent words: the checks in their order, then the walk
 
-value-some : (text : List ℕ) (t : Text text) → 1 ≤ length text
+pub value-some : (text : List ℕ) (t : Text text) → 1 ≤ length text
 value-some text t = rw (← e) (some (paddedText (t .derivation)))
   where
     e : padBytes (paddedText (t .derivation)) ≡ text

@@ -26,24 +26,24 @@ pub enum Match {
 }
 
 // There was one before, or this byte is one.
-fn or_backslash(any: bool, b: u8) -> bool
-    ensures { λ r. ⌜ r ≡ (eqb b 0x5C || any) ⌝ }
+fn or_this(any: bool, b: u8, wanted: u8) -> bool
+    ensures { λ r. ⌜ r ≡ (eqb b wanted || any) ⌝ }
 {
-    if b == 0x5C {
+    if b == wanted {
         return true;
     }
     any
 }
 
-// Of these 16 bytes one is a backslash. All are looked at, so that they are tested in one word of the machine.
-fn any_backslash(text: &[u8], at: usize) -> bool
+// One of these 16 bytes is the wanted one. All are looked at, so that they are tested in one word of the machine.
+pub fn any_of(text: &[u8], at: usize, wanted: u8) -> bool
     requires { ⌜ at + 16 ≤ length (now text) ⌝ }
-    ensures { λ r. ⌜ (r ≡ false → (i : ℕ) → at ≤ i → i < at + 16 → byteIn (now (text .entry)) i ≢ 0x5C) ⌝ }
+    ensures { λ r. ⌜ (r ≡ false → (i : ℕ) → at ≤ i → i < at + 16 → byteIn (now (text .entry)) i ≢ wanted) ⌝ }
 {
     let mut any = false;
     let mut j: usize = 0;
     while j < 16 {
-        any = or_backslash(any, text[at + j]);
+        any = or_this(any, text[at + j], wanted);
         j += 1;
     }
     any
@@ -75,7 +75,7 @@ fn is_plain(text: &[u8], p: usize, q: usize) -> bool
         if text.len() < at + 16 {
             return is_free(text, at, q);
         }
-        if any_backslash(text, at) {
+        if any_of(text, at, 0x5C) {
             return is_free(text, at, q);
         }
         at += 16;

@@ -5,7 +5,7 @@ ghost use lib.ListN.{length};
 ghost use Rattle.paths.specs.Places.{byteIn, firstAt, pastLast};
 ghost use Rattle.query.specs.Items.{isBlank, solid};
 
-fn is_blank(b: u8) -> bool
+pub fn is_blank(b: u8) -> bool
     ensures { λ r. ⌜ r ≡ isBlank b ⌝ }
 {
     match b {
@@ -18,7 +18,7 @@ fn is_blank(b: u8) -> bool
 }
 
 // Where what is not blank begins, from a on, or e.
-pub fn skip_blanks(text: &[u8], a: usize, e: usize) -> usize
+pub(crate) fn skip_blanks(text: &[u8], a: usize, e: usize) -> usize
     requires { ⌜ (a ≤ e) × (e ≤ length (now text)) ⌝ }
     ensures { λ r. ⌜ r ≡ firstAt (solid (byteIn (now (text .entry)))) a e ⌝ }
 {
@@ -33,7 +33,7 @@ pub fn skip_blanks(text: &[u8], a: usize, e: usize) -> usize
 }
 
 // Where what is not blank ends, before e, or a.
-pub fn drop_blanks(text: &[u8], a: usize, e: usize) -> usize
+pub(crate) fn drop_blanks(text: &[u8], a: usize, e: usize) -> usize
     requires { ⌜ (a ≤ e) × (e ≤ length (now text)) ⌝ }
     ensures { λ r. ⌜ r ≡ pastLast (solid (byteIn (now (text .entry)))) a e ⌝ }
 {

@@ -6,7 +6,7 @@ use types::Refusal;
 ghost use Rattle.query.specs.Outcomes.{AnswerGives, QueryGives};
 
 mod bits;
-mod blanks;
+pub mod blanks;
 mod items;
 pub mod types;
 mod walk;

@@ -1,5 +1,7 @@
-// The calls of a job, and queries.
+// The calls of a job, and queries; and which call is whose.
 ghost use Prim.Native.Nat.{_≤_};
+use crate::byline::cut_text;
+use crate::byline::line_call;
 use crate::input::Head;
 use crate::input::read_bytes;
 use crate::input::read_cuts;
@@ -112,21 +114,36 @@ fn ask_and_open(text: &[u8], levels: usize, words: &[u64], digest: &mut u64) -> 
 }
 
 // A record above the limit, of blanks.
-fn beyond(levels: usize, words: &[u64], digest: &mut u64) -> Job {
+fn beyond(levels: usize, words: &[u64], table: &mut [usize], digest: &mut u64) -> Job {
     let text = [32u8; 16777217];
+    cut_text(&text, table, digest);
     ask_and_open(&text, levels, words, digest)
 }
 
 // B: that, and as often more as the flag says. A function that calls itself keeps the 16 MiB out of the other functions' frames,
 // so that where no B comes no large stack is needed.
-fn beyond_again(more: usize, levels: usize, words: &[u64], digest: &mut u64) -> Job {
-    if 0 < more {
-        beyond_again(more - 1, levels, words, digest);
+fn beyond_again(
+    more: usize,
+    levels: usize,
+    words: &[u64],
+    table: &mut [usize],
+    digest: &mut u64,
+) -> Job {
+    if more == 0 {
+        return beyond(levels, words, table, digest);
     }
-    beyond(levels, words, digest)
+    beyond_again(more - 1, levels, words, table, digest);
+    beyond(levels, words, table, digest)
 }
 
-fn lend(job: Job, head: Head, text: &[u8], words: &mut [u64], digest: &mut u64) -> Job {
+fn lend(
+    job: Job,
+    head: Head,
+    text: &[u8],
+    words: &mut [u64],
+    table: &mut [usize],
+    digest: &mut u64,
+) -> Job {
     if head.letter == b'O' {
         return open(head, text, words, digest);
     }
@@ -139,15 +156,26 @@ fn lend(job: Job, head: Head, text: &[u8], words: &mut [u64], digest: &mut u64) 
         return job;
     }
     if head.letter == b'B' {
-        return beyond_again(head.flag as usize, head.levels, words, digest);
+        return beyond_again(head.flag as usize, head.levels, words, table, digest);
+    }
+    if is_line_call(head.letter) {
+        line_call(head, text, words, table, digest);
+        return job;
     }
     job_call(job, head, text, words, digest)
+}
+
+fn is_line_call(letter: u8) -> bool {
+    match letter {
+        b'N' | b'I' | b'F' => true,
+        _ => false,
+    }
 }
 
 fn is_call(letter: u8) -> bool {
     match letter {
         b'O' | b'S' | b'T' | b'L' | b'C' | b'A' | b'Q' | b'B' => true,
-        _ => false,
+        _ => is_line_call(letter),
     }
 }
 
@@ -159,6 +187,7 @@ pub fn call(
     lent: Lengths,
     text: &[u8],
     words: &mut [u64],
+    table: &mut [usize],
     digest: &mut u64,
 ) -> Job {
     if head.letter == b'E' {
@@ -172,7 +201,15 @@ pub fn call(
     if is_call(head.letter) {
         let n = cut(lent.n, head.flag, 2, text.len());
         let w = cut(lent.w, head.flag, 4, words.len());
-        return lend(job, head, &text[..n], &mut words[..w], digest);
+        let t = cut(lent.t, 0, 1, table.len());
+        return lend(
+            job,
+            head,
+            &text[..n],
+            &mut words[..w],
+            &mut table[..t],
+            digest,
+        );
     }
     job
 }

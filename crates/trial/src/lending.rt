@@ -1,16 +1,18 @@
-// What is lent to the calls: a record, and words with any contents.
+// What is lent to the calls: a record, words with any contents, and a table.
 ghost use Prim.Native.Nat.{_≤_};
 use crate::input::Head;
 use crate::input::read_bytes;
+use crate::input::read_cuts;
 
-// So many bytes and words are lent.
+// So many bytes, words and numbers of a table are lent.
 pub struct Lengths {
     pub n: usize,
     pub w: usize,
+    pub t: usize,
 }
 
 pub fn nothing() -> Lengths {
-    Lengths { n: 0, w: 0 }
+    Lengths { n: 0, w: 0, t: 0 }
 }
 
 // Fills so many words, or all, from a seed.
@@ -34,15 +36,43 @@ fn damage(at: usize, by: u64, words: &mut [u64]) {
     }
 }
 
-// R: a record. W: words. D: a word damaged. Any other call: as it was.
-pub fn prepare(lent: Lengths, head: Head, text: &mut [u8], words: &mut [u64]) -> Lengths {
+fn read_table(length: usize, table: &mut [usize]) -> usize {
+    let mut bytes = io::buffer();
+    let got = read_bytes(length, &mut bytes);
+    read_cuts(&bytes[..got], table)
+}
+
+// R: a record. W: words. G: a table. D: a word damaged. Any other call: as it was.
+pub fn prepare(
+    lent: Lengths,
+    head: Head,
+    text: &mut [u8],
+    words: &mut [u64],
+    table: &mut [usize],
+) -> Lengths {
     if head.letter == b'R' {
         let n = read_bytes(head.length, text);
-        return Lengths { n: n, w: lent.w };
+        return Lengths {
+            n: n,
+            w: lent.w,
+            t: lent.t,
+        };
     }
     if head.letter == b'W' {
         let w = fill(head.length, head.value, words);
-        return Lengths { n: lent.n, w: w };
+        return Lengths {
+            n: lent.n,
+            w: w,
+            t: lent.t,
+        };
+    }
+    if head.letter == b'G' {
+        let t = read_table(head.length, table);
+        return Lengths {
+            n: lent.n,
+            w: lent.w,
+            t: t,
+        };
     }
     if head.letter == b'D' {
         damage(head.length, head.value, words);

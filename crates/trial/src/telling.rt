@@ -1,6 +1,7 @@
 // What is printed: of each call ` number@place`, of an asking ` number@chunks+steps`, of a query
-// ` number@place/step+length:digest` with a digest of the part's bytes; at a case's end the digest of the words as every call
-// of it left them.
+// ` number@place/step+length:digest` with a digest of the part's bytes, of a table ` number@count`, of a line
+// ` number@place+line`, of a next line ` 0@start+end`; at a case's end the digest of the words, and of a table its numbers, as
+// every call of it left them.
 use crate::input::wide;
 
 fn mix(digest: u64, word: u64) -> u64 {
@@ -13,6 +14,16 @@ pub fn digest_of(digest: u64, words: &[u64]) -> u64 {
     let mut i = 0;
     while i < words.len() {
         d = mix(d, words[i]);
+        i += 1;
+    }
+    d
+}
+
+pub fn digest_of_table(digest: u64, table: &[usize]) -> u64 {
+    let mut d = digest;
+    let mut i = 0;
+    while i < table.len() {
+        d = mix(d, table[i] as u64);
         i += 1;
     }
     d

@@ -4,10 +4,10 @@ use std::ffi::OsString;
 use std::io::{self, Write};
 use std::os::unix::ffi::OsStrExt;
 
-use wararish::{AskError, Index, IndexError, Report, LEVELS};
+use wararish::{Index, Report};
 
+use super::answer::{Answer, Form};
 use super::arguments::{wrong, Arguments, Known};
-use super::json::write_string;
 use super::out::out;
 use super::progress::Progress;
 use super::reading;
@@ -17,31 +17,8 @@ use super::steps;
 
 pub const OPTIONS: &[Known] = &[("--where", false), ("--json", false)];
 
-/// What is printed for a path.
-#[derive(Clone, Copy)]
-enum Form {
-    Value,
-    Where,
-    Json,
-}
-
-/// What a path comes to: its number, where the part lies or the number's place twice, the step, the part, and a sentence.
-struct Answer<'r> {
-    number: u64,
-    start: usize,
-    end: usize,
-    step: usize,
-    part: Option<&'r [u8]>,
-    message: String,
-}
-
 pub fn run(mut arguments: Arguments) -> Result<Status, Stop> {
-    arguments.not_both("--where", "--json")?;
-    let form = match (arguments.has("--where"), arguments.has("--json")) {
-        (false, false) => Form::Value,
-        (true, _) => Form::Where,
-        (_, true) => Form::Json,
-    };
+    let form = Form::read(&arguments)?;
     let file = arguments.rest.pop().ok_or_else(|| wrong("PATH and FILE are missing".into()))?;
     let paths: Vec<&[u8]> = arguments.rest.iter().map(|path| path.as_bytes()).collect();
     if paths.is_empty() {
@@ -54,14 +31,14 @@ fn answer(paths: &[&[u8]], file: &OsString, form: Form) -> Result<Status, Stop> 
     let input = reading::read(file)?;
     let progress = Progress::of("indexing");
     progress.set(input.record.len());
-    let indexed = Report::new(&input.record).index(levels(paths), &[]);
+    let indexed = Report::new(&input.record).index(steps::levels(paths), &[]);
     drop(progress);
     let mut out = out();
     let status = match indexed {
         Ok(index) => ask_each(&mut out, &index, paths, form)?,
         Err(error) => {
             for path in paths {
-                unindexed(error).write(&mut out, path, form)?;
+                write(&mut out, path, form, &Answer::unindexed(error))?;
             }
             out.flush()?;
             say(&sentences::of_record(&input, error));
@@ -72,18 +49,13 @@ fn answer(paths: &[&[u8]], file: &OsString, form: Form) -> Result<Status, Stop> 
     Ok(status)
 }
 
-/// As many levels as the longest path has steps.
-fn levels(paths: &[&[u8]]) -> usize {
-    paths.iter().map(|path| steps::count(path)).max().unwrap_or(1).clamp(1, LEVELS)
-}
-
 fn ask_each(out: &mut impl Write, index: &Index, paths: &[&[u8]], form: Form) -> io::Result<Status> {
     let mut status = Status::Done;
     for path in paths {
         match index.find(path) {
-            Ok(place) => found(index, place).write(out, path, form)?,
+            Ok(place) => write(out, path, form, &Answer::found(index.record(), place))?,
             Err(error) => {
-                not_found(error).write(out, path, form)?;
+                write(out, path, form, &Answer::not_found(error))?;
                 // the lines of the paths before it come before its message
                 out.flush()?;
                 say(&sentences::of_path(path, index.record(), error));
@@ -94,44 +66,15 @@ fn ask_each(out: &mut impl Write, index: &Index, paths: &[&[u8]], form: Form) ->
     Ok(status)
 }
 
-fn found<'r>(index: &Index<'r>, place: std::ops::Range<usize>) -> Answer<'r> {
-    let (start, end) = (place.start, place.end);
-    Answer { number: 0, start, end, step: 0, part: Some(&index.record()[place]), message: "found".into() }
-}
-
-fn not_found(error: AskError) -> Answer<'static> {
-    refused(error.number(), error.place(), error.step(), error.to_string())
-}
-
-fn unindexed(error: IndexError) -> Answer<'static> {
-    refused(error.number(), error.place(), 0, error.to_string())
-}
-
-fn refused(number: u64, place: usize, step: usize, message: String) -> Answer<'static> {
-    Answer { number, start: place, end: place, step, part: None, message }
-}
-
-impl Answer<'_> {
-    fn write(&self, out: &mut impl Write, path: &[u8], form: Form) -> io::Result<()> {
-        match form {
-            Form::Value => out.write_all(self.part.unwrap_or_default())?,
-            Form::Where => write!(out, "{} {} {} {}", self.number, self.start, self.end, self.step)?,
-            Form::Json => self.write_json(out, path)?,
+fn write(out: &mut impl Write, path: &[u8], form: Form, answer: &Answer) -> io::Result<()> {
+    match form {
+        Form::Value => answer.write_value(out)?,
+        Form::Where => answer.write_where(out)?,
+        Form::Json => {
+            out.write_all(b"{")?;
+            answer.write_members(out, path)?;
+            out.write_all(b"}")?;
         }
-        out.write_all(b"\n")
     }
-
-    fn write_json(&self, out: &mut impl Write, path: &[u8]) -> io::Result<()> {
-        out.write_all(b"{\"path\":")?;
-        write_string(out, &String::from_utf8_lossy(path))?;
-        write!(out, ",\"number\":{},\"start\":{},\"end\":{},", self.number, self.start, self.end)?;
-        write!(out, "\"step\":{},\"value\":", self.step)?;
-        match self.part.map(std::str::from_utf8) {
-            Some(Ok(text)) => write_string(out, text)?,
-            _ => out.write_all(b"null")?,
-        }
-        out.write_all(b",\"message\":")?;
-        write_string(out, &self.message)?;
-        out.write_all(b"}")
-    }
+    out.write_all(b"\n")
 }

@@ -2,12 +2,14 @@
 
 pub const PROGRAM: &str = "\
 usage: wararish ask [--where] [--json] PATH.. FILE     ask a report for paths
+       wararish lines [OPTIONS] FILE [PATH]            ask each line of a text for a path
        wararish index [OPTIONS] FILE                   index a report: verdict, digest, speed
        wararish sample [OPTIONS]                       write a made report, to try
        wararish COMMAND --help                         more about a command
        wararish --version
 
-FILE is a JSON report of up to 16,777,216 bytes; - is standard input.
+FILE is a JSON report, or for lines a text with one in each line, of up to 16,777,216 bytes; - is
+standard input.
 
 Exit status: 0 found or sound; 1 a path finds nothing; 2 the record has a fault or a broken
 item, is empty or too long; 64 wrong use; 66 the file cannot be read; 74 the results cannot be
@@ -34,6 +36,33 @@ or a broken item (27 to 30), is empty (1) or too long (2); 64 wrong use, and pat
 (20 to 22); 66 the file cannot be read. Of several, the greatest.
 
   printf '{\"a\":1,\"b\":[2,30]}' | wararish ask '$.b[1]' -
+";
+
+pub const LINES: &str = "\
+usage: wararish lines [--levels L] [--where | --json] FILE [PATH]
+
+Reads a text that has a record in each line, and indexes each line by itself. Without PATH it
+prints the verdict of each, a row a line: '0 sound', or '1 faulty 13 21', with the fault's number
+and its place in the line. With PATH it prints the part of each line that the path leads to, a row
+a line; the row of a faulty line, or of one in which the path finds nothing, is empty. A message
+tells why, and the other lines are answered all the same. PATH is as for ask.
+
+Lines are cut at line feeds, in strings too. Those of nothing but spaces, tabs and carriage
+returns are left out, and the others have the numbers 0, 1 and so on. Places are counted in the
+line; a message also tells the line and column in the text, from 1. FILE - is standard input.
+
+  --where      number, start, end and step instead of the part, as ask prints them; of a faulty
+               line the fault's number, its place twice, and 0
+  --json       an object for each line instead, a row a line: its number (line), where it lies in
+               the text (line_start, line_end), and what ask --json tells of it, or its verdict
+  --levels L   1 to 16 (as many as PATH has steps; 1 without PATH)
+  --           what follows is no option
+
+Exit status: 0 all sound, and found; 1 the path finds nothing in a line (23 to 26); 2 a line has a
+fault (13 to 16) or a broken item (27 to 30), or the text is empty (1) or too long (2); 64 wrong
+use, and a path that is none (20 to 22); 66 the file cannot be read. Of several, the greatest.
+
+  printf '{\"rate\":24}\\n{\"rate\":25}\\n' | wararish lines - '$.rate'
 ";
 
 pub const INDEX: &str = "\

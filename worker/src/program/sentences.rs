@@ -1,8 +1,9 @@
-//! Messages about records and paths: a sentence with its number, the bytes at its place, and a caret below.
+//! Messages about records, lines and paths: a sentence with its number, the bytes at its place, and a caret below.
 
 use std::fmt::Display;
 
-use wararish::{AskError, IndexError, Where};
+use wararish::lines::line_feeds;
+use wararish::{AskError, IndexError, LineError, LinesError, Where};
 
 use super::reading::Input;
 use super::steps;
@@ -28,6 +29,11 @@ pub fn of_record(input: &Input, error: IndexError) -> String {
     format!("{name}: {error}, {place} ({number})\n{window}")
 }
 
+/// Why a text has no table of lines.
+pub fn of_text(input: &Input, error: LinesError) -> String {
+    format!("{}: {error} ({})", input.name, error.number())
+}
+
 /// Why a path leads nowhere in a record. That a record is blank all through needs no bytes to be seen.
 pub fn of_path(path: &[u8], record: &[u8], error: AskError) -> String {
     let (why, window) = match error {
@@ -44,6 +50,65 @@ fn of_step(path: &[u8], record: &[u8], kind: impl Display, at: Where) -> (String
     let step = shown(steps::text(path, at.step));
     let (place, window) = in_record(record, at.place);
     (format!("step {}, {step}: {kind}, at byte {}, {place}", at.step, at.place), window)
+}
+
+/// A line of a text that a message is about: what the text is called, the line's number in the table, its bytes, and its
+/// number in the text, blank lines counted, from 1.
+pub struct LineOf<'a> {
+    pub name: &'a str,
+    pub line: usize,
+    pub record: &'a [u8],
+    pub number: usize,
+}
+
+impl LineOf<'_> {
+    /// Why it has no index.
+    pub fn has_fault(&self, error: LineError) -> String {
+        let number = error.number();
+        if !error.is_fault() {
+            return format!("{}: {error} ({number})", self.name);
+        }
+        let (place, window) = self.in_text(error.place());
+        format!("{}: {error}, {place} ({number})\n{window}", self.name)
+    }
+
+    /// Why a path leads nowhere in it.
+    pub fn has_not(&self, path: &[u8], error: AskError) -> String {
+        let about = format!("{}: line {} of the table: {}", self.name, self.line, shown(path));
+        let (kind, at): (&dyn Display, Where) = match &error {
+            AskError::Miss(kind, at) => (kind, *at),
+            AskError::Broken(kind, at) if at.step > 0 => (kind, *at),
+            _ => return format!("{about}: {error} ({})", error.number()),
+        };
+        let step = shown(steps::text(path, at.step));
+        let (place, window) = self.in_text(at.place);
+        let sentence = format!("step {}, {step}: {kind}, at byte {} of the line, {place}", at.step, at.place);
+        format!("{about}: {sentence} ({})\n{window}", error.number())
+    }
+
+    /// Where a place of the line is in the text, as an editor tells it, and the bytes there.
+    fn in_text(&self, place: usize) -> (String, String) {
+        (format!("line {}, column {} of the text", self.number, place + 1), window(self.record, place))
+    }
+}
+
+/// How many lines there are up to a place. The places rise, so that many messages need one pass over the text.
+pub struct LineCount {
+    place: usize,
+    feeds: usize,
+}
+
+impl LineCount {
+    pub fn new() -> LineCount {
+        LineCount { place: 0, feeds: 0 }
+    }
+
+    /// The number of the line that a place is in, from 1.
+    pub fn up_to(&mut self, text: &[u8], place: usize) -> usize {
+        self.feeds += line_feeds(&text[self.place..place]);
+        self.place = place;
+        1 + self.feeds
+    }
 }
 
 /// A path, or a step of one, as a sentence shows it.
@@ -80,13 +145,6 @@ fn line_of(record: &[u8], place: usize) -> Line {
     let blanks = behind.iter().take_while(|byte| matches!(byte, b' ' | b'\t' | b'\n' | b'\r')).count();
     let rest = behind[blanks..].iter().position(|&byte| byte == b'\n').map_or(behind.len(), |i| blanks + i);
     Line { number: 1 + feeds, start, end: place + rest }
-}
-
-/// How many line feeds there are, in parts that a byte can count, which is fast: a record may be long, and each of many
-/// paths may have a message.
-fn line_feeds(bytes: &[u8]) -> usize {
-    let few = |part: &[u8]| part.iter().fold(0u8, |feeds, &byte| feeds.wrapping_add(u8::from(byte == b'\n')));
-    bytes.chunks(128).map(|part| usize::from(few(part))).sum()
 }
 
 /// Where a place of the record is, in lines and columns (from 1, a column a byte), and the bytes there.

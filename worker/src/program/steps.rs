@@ -1,12 +1,19 @@
 //! The steps of a path, as they are written.
 
+use wararish::LEVELS;
+
 /// Where each step begins: with a dot or an opening bracket, and a good path has neither anywhere else.
 fn begins(path: &[u8]) -> impl Iterator<Item = usize> + '_ {
     (0..path.len()).filter(|&i| matches!(path[i], b'.' | b'['))
 }
 
-pub fn count(path: &[u8]) -> usize {
+fn count(path: &[u8]) -> usize {
     begins(path).count()
+}
+
+/// As many levels as the longest path has steps, so that none is made in vain.
+pub fn levels(paths: &[&[u8]]) -> usize {
+    paths.iter().map(|path| count(path)).max().unwrap_or(1).clamp(1, LEVELS)
 }
 
 /// The text of a step of a good path, from 1.

@@ -29,8 +29,8 @@ returns c =
     let l = c .before .before .before .loop in
     λ e. side-by-side (λ i. byteIn (a .text .now) i ≢ 0x5C) (a .p) (l .at) (a .q) (l .inv) (c .is-free .ensures e)
 
-any-backslash-requires : tie.Need-any-backslash-requires Inv-loop μ-loop
-any-backslash-requires c κs = omega arith
+any-of-requires : tie.Need-any-of-requires Inv-loop μ-loop
+any-of-requires c κs = omega arith
 
 is-free-requires-2 : tie.Need-is-free-requires-2 Inv-loop μ-loop
 is-free-requires-2 c κs = search needs
@@ -51,10 +51,10 @@ loop-again : tie.Need-loop-again Inv-loop μ-loop
 loop-again c =
     let a = c .before .before .before .before .before .before .args in
     let l = c .before .before .before .before .loop in
-    side-by-side (λ i. byteIn (a .text .now) i ≢ 0x5C) (a .p) (l .at) (l .at + 16) (l .inv) (c .before .any-backslash .ensures (c .if2 .left))
+    side-by-side (λ i. byteIn (a .text .now) i ≢ 0x5C) (a .p) (l .at) (l .at + 16) (l .inv) (c .before .any-of .ensures (c .if2 .left))
 
 returns-3 : tie.Need-returns-3 Inv-loop μ-loop
 returns-3 c = λ e i l m. c .before .loop .inv i l (omega arith)
 
 pub is-plain-spec : {M : Type 1} → statement M
-is-plain-spec = tie.close (tie.spec Inv-loop μ-loop loop-holds add-if1 is-free-requires returns any-backslash-requires is-free-requires-2 returns-2 add-at loop-less loop-again returns-3)
+is-plain-spec = tie.close (tie.spec Inv-loop μ-loop loop-holds add-if1 is-free-requires returns any-of-requires is-free-requires-2 returns-2 add-at loop-less loop-again returns-3)

@@ -1,4 +1,4 @@
--- Record and words stay as long as they are, and the turns fall.
+-- Record, words and table stay as long as they are, and the turns fall.
 use mathlib.Core.Path.{_≡_, refl}
 use native.Mathlib.Omega.{arith}
 use lib.ListN.{length}
@@ -7,10 +7,11 @@ use Rattle.trial.proofs.run.Statement.{statement}
 use Rattle.trial.proofs.run.Tie as tie
 
 abbrev Inv-loop : tie.InvT-loop
-Inv-loop text₀ words₀ job₀ kept₀ lent₀ digest₀ turns₀ text words job kept lent digest turns = (length text ≡ length text₀) × (length words ≡ length words₀)
+Inv-loop text₀ words₀ table₀ job₀ kept₀ lent₀ digest₀ turns₀ text words table job kept lent digest turns =
+    (length text ≡ length text₀) × (length words ≡ length words₀) × (length table ≡ length table₀)
 
 abbrev μ-loop : tie.MeasureT-loop
-μ-loop text₀ words₀ job₀ kept₀ lent₀ digest₀ turns₀ text words job kept lent digest turns = turns
+μ-loop text₀ words₀ table₀ job₀ kept₀ lent₀ digest₀ turns₀ text words table job kept lent digest turns = turns
 
 no-job-requires : tie.Need-no-job-requires Inv-loop μ-loop
 no-job-requires c κs = search needs
@@ -19,7 +20,7 @@ nothing-requires : tie.Need-nothing-requires Inv-loop μ-loop
 nothing-requires c κs = search needs
 
 loop-holds : tie.Need-loop-holds Inv-loop μ-loop
-loop-holds c = (refl, refl)
+loop-holds c = (refl, refl, refl)
 
 read-head-requires : tie.Need-read-head-requires Inv-loop μ-loop
 read-head-requires c κs = search needs
@@ -29,6 +30,9 @@ same-length c = search needs
 
 same-length-2 : tie.Need-same-length-2 Inv-loop μ-loop
 same-length-2 c = search needs
+
+same-length-3 : tie.Need-same-length-3 Inv-loop μ-loop
+same-length-3 c = search needs
 
 returns : tie.Need-returns Inv-loop μ-loop
 returns c = search needs
@@ -43,21 +47,24 @@ call-requires : tie.Need-call-requires Inv-loop μ-loop
 call-requires c κs = search needs
 
 sub-turns : tie.Need-sub-turns Inv-loop μ-loop
-sub-turns c = omega arith
+sub-turns c = omega (arith, c .before .before .before .before .before .before .before .before .before .before .before .before .before .before .before .before .before .before .before .before .before .before .before .loop-test .taken)
 
 loop-less : tie.Need-loop-less Inv-loop μ-loop
-loop-less c = search needs
+loop-less c = omega (arith, c .before .before .before .before .before .before .before .before .before .before .before .before .before .before .before .before .before .before .before .before .before .before .before .loop-test .taken)
 
 loop-again : tie.Need-loop-again Inv-loop μ-loop
 loop-again c =
-    let inv = c .before .before .before .before .before .before .before .before .before .before .before .before .before .before .before .before .before .before .loop .inv in
-    (search (needs, inv .0), search (needs, inv .1))
-
-same-length-3 : tie.Need-same-length-3 Inv-loop μ-loop
-same-length-3 c = c .before .loop .inv .0
+    let inv = c .before .before .before .before .before .before .before .before .before .before .before .before .before .before .before .before .before .before .before .before .before .before .before .before .loop .inv in
+    (search (needs, inv .0), search (needs, inv .1), search (needs, inv .2))
 
 same-length-4 : tie.Need-same-length-4 Inv-loop μ-loop
-same-length-4 c = search needs
+same-length-4 c = c .before .loop .inv .0
+
+same-length-5 : tie.Need-same-length-5 Inv-loop μ-loop
+same-length-5 c = c .before .loop .inv .1
+
+same-length-6 : tie.Need-same-length-6 Inv-loop μ-loop
+same-length-6 c = c .before .loop .inv .2
 
 returns-2 : tie.Need-returns-2 Inv-loop μ-loop
 returns-2 c = search needs
@@ -74,6 +81,7 @@ run-spec =
     read-head-requires
     same-length
     same-length-2
+    same-length-3
     returns
     keep-requires
     prepare-requires
@@ -81,6 +89,7 @@ run-spec =
     sub-turns
     loop-less
     loop-again
-    same-length-3
     same-length-4
+    same-length-5
+    same-length-6
     returns-2)

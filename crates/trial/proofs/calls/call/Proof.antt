@@ -24,6 +24,9 @@ cut-requires c κs = search needs
 cut-requires-2 : tie.Need-cut-requires-2
 cut-requires-2 c κs = search needs
 
+cut-requires-3 : tie.Need-cut-requires-3
+cut-requires-3 c κs = search needs
+
 slice-aggregate-lend : tie.Need-slice-aggregate-lend
 slice-aggregate-lend c = sym (length-take-le _ _ (omega arith))
 
@@ -33,11 +36,20 @@ slice-relend-prefix-lend c = search needs
 slice-aggregate-lend-2 : tie.Need-slice-aggregate-lend-2
 slice-aggregate-lend-2 c = sym (length-take-le _ _ (omega arith))
 
+slice-relend-prefix-lend-2 : tie.Need-slice-relend-prefix-lend-2
+slice-relend-prefix-lend-2 c = search needs
+
+slice-aggregate-lend-3 : tie.Need-slice-aggregate-lend-3
+slice-aggregate-lend-3 c = sym (length-take-le _ _ (omega arith))
+
 lend-requires : tie.Need-lend-requires
 lend-requires c κs = search needs
 
 same-length : tie.Need-same-length
 same-length c = search needs
+
+same-length-2 : tie.Need-same-length-2
+same-length-2 c = search needs
 
 returns-3 : tie.Need-returns-3
 returns-3 c = search needs
@@ -55,10 +67,14 @@ call-spec =
     is-call-requires
     cut-requires
     cut-requires-2
+    cut-requires-3
     slice-aggregate-lend
     slice-relend-prefix-lend
     slice-aggregate-lend-2
+    slice-relend-prefix-lend-2
+    slice-aggregate-lend-3
     lend-requires
     same-length
+    same-length-2
     returns-3
     returns-4)

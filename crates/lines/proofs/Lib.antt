@@ -1,0 +1,4 @@
+pub mod LineLaws
+pub mod TableLaws
+pub mod FrontLaws
+pub mod VerdictLaws

@@ -1,0 +1,3 @@
+pub mod Cutting
+pub mod Answers
+pub mod Paths

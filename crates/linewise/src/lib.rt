@@ -1,0 +1,1 @@
+// What the table of a text and the answer of a line mean: theorems, no code.
