@@ -1,10 +1,8 @@
 // 64 bytes to words of their classes.
 ghost use mathlib.Core.Path.{_≡_};
 ghost use Prim.Native.Nat.{ℕ, _+_, _*_, _%_, _≤_, _<_};
-ghost use lib.Dec.{eqb};
 ghost use lib.ListN.{length, getD};
 ghost use Rattle.blocks.specs.Block.{Lanes, lanesFor, entry, TableOf, lanesOf, BlockOf};
-ghost use Rattle.rules.specs.Word.{digit};
 
 // The words of four classes: bit j is byte j of the block.
 pub struct Classes {

@@ -15,7 +15,7 @@ use Rattle.rules.proofs.Booleans.{impossible}
 use Rattle.index.specs.declared.Answer.{Answer}
 use Rattle.index.specs.declared.Answer.the-variants.{Done, Refused, Faulty}
 use Rattle.index.specs.declared.Refusal.the-variants.{Early}
-use Rattle.index.specs.Answers.{faultNumber, refusalNumber, numberOf, placeOf, Check, checked, onDone}
+use Rattle.index.specs.Answers.{refusalNumber, numberOf, placeOf, Check, checked, onDone}
 use Rattle.index.specs.Opening.{openChecks, opening}
 use Rattle.index.proofs.AnswerLaws.{done-other}
 use Rattle.runs.specs.Runs.{Call, scan, settle, level, Ends}

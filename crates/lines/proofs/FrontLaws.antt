@@ -1,7 +1,7 @@
 -- The words of a line, made by one scan and one level of all of them, are its index: its only chunk begins outside a string and at depth 0, as the
 -- scan guesses. And where the scan found all in balance the line is sound: a walk over its brackets meets no fault.
 use Prim.Native.Nat.{ℕ, _+_, _*_, _-_, _≤_, _<_, min}
-use mathlib.Core.Path.{_≡_, refl, sym, ap, ap₂, _∙_, subst}
+use mathlib.Core.Path.{_≡_, refl, sym, ap, ap₂, _∙_}
 use mathlib.Core.Bool.{Bool, true, false, not, _&&_}
 use mathlib.Core.List.{List}
 use native.Mathlib.Omega.{arith}
@@ -11,7 +11,7 @@ use lib.Dec.{eqb, leb}
 use Rattle.rules.specs.Word.{odd, count, wordAt}
 use Rattle.rules.specs.Bits.{inString, maskBit, opener, closer, atDepth}
 use Rattle.rules.specs.Faults.{sound, atEnd, faultFrom, faultOf}
-use Rattle.rules.specs.Layout.{Bitmap, quotes, mask, colons, commas, widthOf, sizeOf, Has, cell, bitOf, index, Promise}
+use Rattle.rules.specs.Layout.{Bitmap, quotes, mask, colons, commas, widthOf, sizeOf, Has, cell, bitOf, index}
 use Rattle.rules.proofs.Booleans.{impossible}
 use Rattle.rules.proofs.Counting.{count-cat}
 use Rattle.rules.proofs.LayoutLaws.{index-only}
@@ -25,9 +25,7 @@ use Rattle.chunks.specs.Writing.{levelsTill}
 use Rattle.chunks.specs.Sweeping.{swingBy, scanWords, sweptOf}
 use Rattle.chunks.specs.Levels.{levelWord, levelWords}
 use Rattle.chunks.proofs.ScanLaws.{swingBy-ext}
-use Rattle.index.specs.Types.{Span, Sought, On, At}
-use Rattle.index.specs.declared.Fault.{Fault}
-use Rattle.index.specs.Settling.{seek}
+use Rattle.index.specs.Types.{Span}
 use Rattle.runs.proofs.Border.{Meets, clear, found, meets-of}
 use Rattle.runs.proofs.Steps.{both}
 use Rattle.runs.proofs.Past.{inString-past, openers-past, closers-past}

@@ -1,4 +1,5 @@
 pub mod LineLaws
 pub mod TableLaws
 pub mod FrontLaws
+pub mod WhereLaws
 pub mod VerdictLaws

@@ -10,13 +10,11 @@ use native.Mathlib.Nat.{lt-of-not-le}
 use lib.ListN.{length}
 use lib.Dec.{ltb}
 use borrow.Author.Tests.{lt-ltb, le-ltb}
-use Rattle.rules.specs.Word.{pick}
 use Rattle.rules.proofs.Booleans.{impossible}
 use Rattle.paths.proofs.PlaceLaws.{first-none, first-here, first-next, first-ge, first-le}
 use Rattle.paths.specs.Places.{byteIn}
 use Rattle.query.specs.Items.{solid}
-use Rattle.lines.specs.Lines.{Entry, isFeed, lineEnd, isBlankLine, unlessBlank, linesIn, linesFrom, firstOf, lineFrom}
-use Rattle.lines.specs.declared.Line.{Line}
+use Rattle.lines.specs.Lines.{Entry, feedAt, lineEnd, isBlankLine, unlessBlank, linesIn, linesFrom, headLine, lineFrom}
 use Rattle.lines.specs.declared.Line.the-variants.{At, End}
 
 -- ---- blank or not, byte by byte
@@ -40,7 +38,7 @@ module _ (text : List ℕ) where
   -- a line ends where it begins or behind that, within the text
   pub end-bounds : (a : ℕ) → a ≤ length text → (a ≤ lineEnd text a) × (lineEnd text a ≤ length text)
   unfolding lineEnd
-  end-bounds a l = (first-ge (isFeed text) a (length text) l, first-le (isFeed text) a (length text) l)
+  end-bounds a l = (first-ge (feedAt text) a (length text) l, first-le (feedAt text) a (length text) l)
 
   abbrev pub here : ℕ → Entry
   here a = record { start = a; end = lineEnd text a }
@@ -78,15 +76,15 @@ module _ (text : List ℕ) where
 
   pub next-none : (a : ℕ) → length text ≤ a → lineFrom text a ≡ End
   unfolding lineFrom
-  next-none a l = ap firstOf (none-behind a l)
+  next-none a l = ap headLine (none-behind a l)
 
   pub next-passed : (a e : ℕ) → a < length text → e ≡ lineEnd text a → isBlankLine text a e ≡ true → lineFrom text a ≡ lineFrom text (e + 1)
   unfolding lineFrom
-  next-passed a e l q b = rw q (ap firstOf (blank-passed a l (rw (← q) b)))
+  next-passed a e l q b = rw q (ap headLine (blank-passed a l (rw (← q) b)))
 
   pub next-here : (a e : ℕ) → a < length text → e ≡ lineEnd text a → isBlankLine text a e ≡ false → lineFrom text a ≡ At a e
   unfolding lineFrom
-  next-here a e l q b = rw q (ap firstOf (line-here a l (rw (← q) b)))
+  next-here a e l q b = rw q (ap headLine (line-here a l (rw (← q) b)))
 
   -- the line that is next from a on: it is listed, and behind it are the others
   pub record Listed (a s e : ℕ) : Type 0 where
@@ -120,9 +118,9 @@ module _ (text : List ℕ) where
   next-at a s e q = go (next (length text) a (omega arith))
     where
       go : Next a → Listed a s e
-      go (none z) = let w = sym (ap firstOf z) ∙ q in impossible (cc)
+      go (none z) = let w = sym (ap headLine z) ∙ q in impossible (cc)
       go (one t f d) =
-          let w : At t f ≡ At s e = sym (ap firstOf (d .listed)) ∙ q in
+          let w : At t f ≡ At s e = sym (ap headLine (d .listed)) ∙ q in
           let x : t ≡ s = cc in
           let y : f ≡ e = cc in
           rw (← x, ← y) d
@@ -133,4 +131,4 @@ module _ (text : List ℕ) where
     where
       go : Next a → linesFrom text a ≡ []
       go (none z) = z
-      go (one t f d) = let w = sym (ap firstOf (d .listed)) ∙ q in impossible (cc)
+      go (one t f d) = let w = sym (ap headLine (d .listed)) ∙ q in impossible (cc)

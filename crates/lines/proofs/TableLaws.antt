@@ -7,7 +7,7 @@ use lib.ListN.{length, set, drop, length-set}
 use lib.Seq.{sets, sets-eq}
 use borrow.Author.Tests.{eq-eqb, ne-eqb, lt-ltb, le-ltb}
 use Rattle.lines.specs.Lines.{Entry, lines, linesFrom}
-use Rattle.lines.specs.Tables.{entriesOf, entries, filled, tableAnswer, onTabled, tableAfter}
+use Rattle.lines.specs.Tables.{entriesOf, entries, tableWith, tableAnswer, tableAfter}
 use Rattle.lines.proofs.LineLaws.{Listed}
 use Rattle.lines.specs.declared.TableRefusal.{TableRefusal}
 use Rattle.lines.specs.declared.TableRefusal.the-variants.{Empty, TooLong, ManyLines}
@@ -18,8 +18,8 @@ unfolding entries
 length-entries [] = refl
 length-entries (e ∷ later) = omega (arith, length-entries later)
 
-sets-filled : (es : List Entry) (table : List ℕ) → 2 * length es ≤ length table → sets table 0 (entries es) ≡ filled es table
-unfolding filled
+sets-filled : (es : List Entry) (table : List ℕ) → 2 * length es ≤ length table → sets table 0 (entries es) ≡ tableWith es table
+unfolding tableWith
 sets-filled es table l =
     let n = length-entries es in
     let m : 0 + length (entries es) ≡ 2 * length es = omega (arith, n) in
@@ -47,7 +47,7 @@ filling-turn text first table i at s e f d =
     }
 
 -- no line is left
-pub filling-done : (text first table : List ℕ) (i at : ℕ) → Filling text first table i at → linesFrom text at ≡ [] → 2 * length (lines text) ≤ length first → table ≡ filled (lines text) first
+pub filling-done : (text first table : List ℕ) (i at : ℕ) → Filling text first table i at → linesFrom text at ≡ [] → 2 * length (lines text) ≤ length first → table ≡ tableWith (lines text) first
 unfolding entries
 filling-done text first table i at f e l = ap (λ (es : List Entry). sets table i (entries es)) (sym e) ∙ f .same ∙ sets-filled (lines text) first l
 
@@ -78,7 +78,7 @@ module _ (text table : List ℕ) where
     unfolding tableAnswer
     made l = rw (ne-eqb (length text) 0 (omega arith), le-ltb 16777216 (length text) small, le-ltb (entriesOf table) (length (lines text)) l)
 
-    pub table-made : length (lines text) ≤ entriesOf table → {after : List ℕ} → after ≡ filled (lines text) table
+    pub table-made : length (lines text) ≤ entriesOf table → {after : List ℕ} → after ≡ tableWith (lines text) table
         → (tabled.Lines (length (lines text)) ≡ tableAnswer text table) × (after ≡ tableAfter text table)
     unfolding tableAfter
     table-made l e = rw (made l) (refl, e)

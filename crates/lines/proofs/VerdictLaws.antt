@@ -2,14 +2,12 @@
 -- the words, check by check.
 use Prim.Native.Nat.{ℕ, _+_, _-_, _≤_, _<_}
 use mathlib.Core.Path.{_≡_, refl, sym, ap, ap₂, _∙_}
-use mathlib.Core.Bool.{Bool, true, false, _&&_, _||_}
+use mathlib.Core.Bool.{true, false, _||_}
 use mathlib.Core.List.{List, [], _++_}
 use native.Mathlib.Omega.{arith}
 use lib.ListN.{length, take, drop}
-use lib.Dec.{eqb, ltb, leb}
-use borrow.Author.Tests.{eq-eqb, ne-eqb, lt-ltb, le-ltb, leb-true}
-use Rattle.rules.specs.Word.{pick}
-use Rattle.rules.proofs.Booleans.{impossible}
+use lib.Dec.{eqb, ltb}
+use borrow.Author.Tests.{eq-eqb, ne-eqb, lt-ltb, le-ltb}
 use Rattle.rules.specs.Faults.{Verdict, sound, faulty, faultOf}
 use Rattle.rules.specs.Layout.{widthOf, sizeOf}
 use Rattle.chunks.specs.declared.scanning.Swept.{Swept}
@@ -23,13 +21,13 @@ use Rattle.index.specs.declared.Fault.{Fault}
 use Rattle.index.specs.declared.Fault.the-variants.{Closer, Opener, InString, InBracket}
 use Rattle.index.specs.Answers.{faultNumber, faultPlace}
 use Rattle.index.specs.Opening.{firstBad, openChecks, opening}
+use Rattle.index.specs.Closing.{unlessRefused}
 use Rattle.runs.specs.Runs.{ClosedRun}
 use Rattle.runs.specs.Whole.{wholeAnswer, wholeWords, plainly}
 use Rattle.runs.proofs.Theorems.{sound-closes, faulty-closes}
 use Rattle.runs.proofs.Whole.{whole-run}
 use Rattle.runs.proofs.Plain.{plain-steps, plain-complete}
-use Rattle.lines.specs.Jobs.{startIn, endIn, lineAt, lineOf, faultNamed, ofVerdict, verdictWords, frontChecks, frontAnswer, unlessRefused, frontWords, numbered, lineAnswer, lineWords, balanced, Fits}
-use Rattle.lines.specs.Tables.{entriesOf}
+use Rattle.lines.specs.Jobs.{lineAt, lineOf, faultNamed, ofVerdict, verdictWords, frontChecks, frontAnswer, frontWords, numbered, lineAnswer, lineWords, balanced, Indexable}
 use Rattle.lines.specs.declared.Line.the-variants.{At, End}
 use Rattle.lines.specs.declared.LineAnswer.the-variants as line
 use Rattle.lines.proofs.FrontLaws.{made-index, balanced-sound}
@@ -70,7 +68,7 @@ module _ (bytes : List ℕ) (levels : ℕ) where
           rw s (d .1 ∙ ap Faulty (named (d .0) ∙ ap₂ faultNamed (d .2) (d .3)), d .4)
 
   -- a whole run in the plain order, of one chunk
-  module _ (words : List ℕ) (fits : Fits bytes words levels) where
+  module _ (words : List ℕ) (fits : Indexable bytes words levels) where
     opens : opening (length bytes) (length words) levels [] ≡ Done
     unfolding opening openChecks
     opens =
@@ -142,18 +140,3 @@ module _ (text table words : List ℕ) (i levels : ℕ) where
       → (numbered i a ≡ lineAnswer text table i levels (length words)) × (after ≡ lineWords text table i levels words)
   unfolding lineOf lineAnswer lineWords
   line-somewhere s e h f = rw h (ap (numbered i) (f .0), f .1)
-
-  -- and where it lies, it is a part of the text
-  pub line-part : (n s e : ℕ) → lineAt n table i ≡ At s e → (s ≤ e) × (e ≤ n)
-  unfolding lineAt
-  line-part n s e = go (ltb i (entriesOf table)) (leb (startIn table i) (endIn table i)) refl (leb (endIn table i) n) refl
-    where
-      go : (x y : Bool) → leb (startIn table i) (endIn table i) ≡ y → (z : Bool) → leb (endIn table i) n ≡ z
-          → pick (x && (y && z)) (At (startIn table i) (endIn table i)) End ≡ At s e → (s ≤ e) × (e ≤ n)
-      go true true p true q h =
-          let first : startIn table i ≡ s = cc in
-          let last : endIn table i ≡ e = cc in
-          (omega (arith, leb-true (startIn table i) (endIn table i) p), omega (arith, leb-true (endIn table i) n q))
-      go true true p false q h = impossible (cc)
-      go true false p z q h = impossible (cc)
-      go false y p z q h = impossible (cc)

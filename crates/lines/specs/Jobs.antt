@@ -1,5 +1,5 @@
 -- The job of one line: over its bytes alone, in the front of the words. What it answers and leaves, by the rules and not by its steps.
-use Prim.Native.Nat.{ℕ, _+_, _*_, _-_, _≤_, _<_}
+use Prim.Native.Nat.{ℕ, _+_, _*_, _-_, _≤_}
 use mathlib.Core.Path.{_≡_}
 use mathlib.Core.Bool.{Bool, not, _&&_, _||_}
 use mathlib.Core.List.{List, [], _∷_, _++_}
@@ -15,6 +15,7 @@ use Rattle.index.specs.declared.Refusal.the-variants.{Empty, TooLong, BadLevels
 use Rattle.index.specs.declared.Answer.{Answer}
 use Rattle.index.specs.declared.Answer.the-variants.{Done, Refused, Faulty}
 use Rattle.index.specs.Answers.{refusalNumber, faultNumber, faultPlace, Check, checked}
+use Rattle.index.specs.Closing.{unlessRefused}
 use Rattle.lines.specs.Tables.{entriesOf}
 use Rattle.lines.specs.declared.Line.{Line}
 use Rattle.lines.specs.declared.Line.the-variants.{At, End}
@@ -72,11 +73,6 @@ frontChecks n w levels =
 unfoldable pub frontAnswer : List ℕ → ℕ → ℕ → Answer
 frontAnswer bytes levels w = checked (frontChecks (length bytes) w levels) (ofVerdict (faultOf bytes))
 
-abbrev pub unlessRefused : {A : Type 0} → Answer → A → A → A
-unlessRefused Done taken refused = taken
-unlessRefused (Refused r) taken refused = refused
-unlessRefused (Faulty f) taken refused = taken
-
 -- the words behind stay
 unfoldable pub frontWords : List ℕ → ℕ → List ℕ → List ℕ
 frontWords bytes levels words =
@@ -118,7 +114,7 @@ unfoldable pub balanced : Bool → Swing → Bool
 balanced inside s = not inside && (eqb (s .dip) 0 && (leb (s .peak) 64 && eqb (s .up) (s .down)))
 
 -- a record and its words
-pub record Fits (bytes words : List ℕ) (levels : ℕ) : Type 0 where
+pub record Indexable (bytes words : List ℕ) (levels : ℕ) : Type 0 where
   pub some : 1 ≤ length bytes
   pub small : length bytes ≤ 16777216
   pub low : 1 ≤ levels

@@ -17,12 +17,12 @@ pub record Entry : Type 0 where
   pub start : ℕ
   pub end : ℕ
 
-unfoldable pub isFeed : List ℕ → ℕ → Bool
-isFeed text i = eqb (byteIn text i) 10
+unfoldable pub feedAt : List ℕ → ℕ → Bool
+feedAt text i = eqb (byteIn text i) 10
 
 -- "cut at LF bytes": the line that begins at a ends there
 unfoldable pub lineEnd : List ℕ → ℕ → ℕ
-lineEnd text a = firstAt (isFeed text) a (length text)
+lineEnd text a = firstAt (feedAt text) a (length text)
 
 -- a line from a to e of blanks only, or of nothing
 unfoldable pub isBlankLine : List ℕ → ℕ → ℕ → Bool
@@ -47,19 +47,19 @@ linesFrom text a = linesIn (length text) text a
 abbrev pub lines : List ℕ → List Entry
 lines text = linesFrom text 0
 
-abbrev pub firstOf : List Entry → Line
-firstOf [] = End
-firstOf (e ∷ later) = At (e .start) (e .end)
+abbrev pub headLine : List Entry → Line
+headLine [] = End
+headLine (e ∷ later) = At (e .start) (e .end)
 
 -- the next line from a place on
 unfoldable pub lineFrom : List ℕ → ℕ → Line
-lineFrom text a = firstOf (linesFrom text a)
+lineFrom text a = headLine (linesFrom text a)
 
 -- what makes a stretch of the text one of its lines, said without the cutting
 pub record IsLine (text : List ℕ) (e : Entry) : Type 0 where
-  pub begins : (e .start ≡ 0) ⊎ ((p : ℕ) × (e .start ≡ suc p) × (isFeed text p ≡ true))
-  pub ends : (e .end ≡ length text) ⊎ ((e .end < length text) × (isFeed text (e .end) ≡ true))
-  pub whole : (i : ℕ) → e .start ≤ i → i < e .end → isFeed text i ≡ false
+  pub begins : (e .start ≡ 0) ⊎ ((p : ℕ) × (e .start ≡ suc p) × (feedAt text p ≡ true))
+  pub ends : (e .end ≡ length text) ⊎ ((e .end < length text) × (feedAt text (e .end) ≡ true))
+  pub whole : (i : ℕ) → e .start ≤ i → i < e .end → feedAt text i ≡ false
   pub solid-at : ℕ
   pub within : (e .start ≤ solid-at) × (solid-at < e .end)
   pub not-blank : solid (byteIn text) solid-at ≡ true

@@ -32,8 +32,8 @@ entries [] = []
 entries (e ∷ later) = e .start ∷ e .end ∷ entries later
 
 -- these entries in the front, and "entries behind stay"
-unfoldable pub filled : List Entry → List ℕ → List ℕ
-filled es table = entries es ++ drop (2 * length es) table
+unfoldable pub tableWith : List Entry → List ℕ → List ℕ
+tableWith es table = entries es ++ drop (2 * length es) table
 
 -- "1, 2, then 31 exactly when there are more lines than table entries"
 unfoldable pub tableAnswer : List ℕ → List ℕ → Tabled
@@ -49,4 +49,4 @@ onTabled (tabled.Refused why) made left = left
 
 -- "the table unchanged"
 unfoldable pub tableAfter : List ℕ → List ℕ → List ℕ
-tableAfter text table = onTabled (tableAnswer text table) (filled (lines text) table) table
+tableAfter text table = onTabled (tableAnswer text table) (tableWith (lines text) table) table

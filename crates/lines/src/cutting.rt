@@ -1,10 +1,9 @@
 // Where a line ends, and the next line.
 ghost use mathlib.Core.Path.{_≡_};
 ghost use mathlib.Core.Bool.{false};
-ghost use Prim.Native.Nat.{ℕ, _≤_, _<_};
+ghost use Prim.Native.Nat.{_≤_, _<_};
 ghost use lib.ListN.{length};
-ghost use Rattle.paths.specs.Places.{firstAt};
-ghost use Rattle.lines.specs.Lines.{isFeed, lineEnd, isBlankLine, lineFrom};
+ghost use Rattle.lines.specs.Lines.{lineEnd, isBlankLine, lineFrom};
 use crate::Line;
 use names::any_of;
 use query::blanks::is_blank;

@@ -1,10 +1,9 @@
 // One line indexed: a job of one chunk over its own bytes, in the front of the words.
 ghost use mathlib.Core.Path.{_≡_};
-ghost use Prim.Native.Nat.{_≤_, _<_};
+ghost use Prim.Native.Nat.{_<_};
 ghost use lib.ListN.{length};
-ghost use Rattle.rules.specs.Layout.{sizeOf};
 ghost use Rattle.rules.specs.Faults.{faultOf};
-ghost use Rattle.lines.specs.Jobs.{lineAt, lineNumber, linePlace, lineTold, ofVerdict, verdictWords, frontAnswer, frontWords, lineAnswer, lineWords, balanced, Fits};
+ghost use Rattle.lines.specs.Jobs.{lineAt, lineNumber, linePlace, lineTold, ofVerdict, verdictWords, frontAnswer, frontWords, lineAnswer, lineWords, balanced, Indexable};
 use crate::Line;
 use crate::LineAnswer;
 use blocks::swing::Swing;
@@ -68,7 +67,7 @@ fn is_balanced(inside: bool, swing: Swing) -> bool
 // All words of a line. The steps of a job of one chunk, without the job: it would be handed on by copies longer than most lines. Only a line
 // with a fault is given to one, which finds its place.
 fn make_index(line: &[u8], words: &mut [u64], levels: usize) -> Answer
-    requires { ⌜ Fits (now line) (now words) levels ⌝ }
+    requires { ⌜ Indexable (now line) (now words) levels ⌝ }
     ensures { λ r. ⌜ r ≡ ofVerdict (faultOf (now (line .entry))) ⌝ }
     ensures { λ _. ⌜ now (words .exit) ≡ verdictWords (faultOf (now (line .entry))) (now (line .entry)) levels ⌝ }
 {

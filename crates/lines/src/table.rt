@@ -3,7 +3,7 @@ ghost use mathlib.Core.Path.{_≡_};
 ghost use Prim.Native.Nat.{_*_, _≤_};
 ghost use lib.ListN.{length};
 ghost use Rattle.lines.specs.Lines.{lines};
-ghost use Rattle.lines.specs.Tables.{tableNumber, tabledNumber, tabledCount, filled, tableAnswer, tableAfter};
+ghost use Rattle.lines.specs.Tables.{tableNumber, tabledNumber, tabledCount, tableWith, tableAnswer, tableAfter};
 use crate::Line;
 use crate::TableRefusal;
 use crate::Tabled;
@@ -61,7 +61,7 @@ fn count_lines(text: &[u8]) -> usize
 
 fn fill_table(text: &[u8], table: &mut [usize])
     requires { ⌜ (length (now text) ≤ 16777216) × (2 * length (lines (now text)) ≤ length (now table)) ⌝ }
-    ensures { λ _. ⌜ now (table .exit) ≡ filled (lines (now (text .entry))) (now (table .entry)) ⌝ }
+    ensures { λ _. ⌜ now (table .exit) ≡ tableWith (lines (now (text .entry))) (now (table .entry)) ⌝ }
 {
     let mut i = 0;
     let mut at = 0;

@@ -1,12 +1,13 @@
 -- The numbers of a line's call: each exactly under its condition, in order; and what it leaves of the words.
-use Prim.Native.Nat.{ℕ, zero, suc, _+_, _≤_, _<_}
+use Prim.Native.Nat.{ℕ, zero, suc, _+_, _-_, _≤_, _<_}
 use mathlib.Core.Path.{_≡_, refl, sym, ap, _∙_}
 use mathlib.Core.Bool.{false}
 use mathlib.Core.List.{List, [], _∷_, _++_}
 use mathlib.Core.Logic.{_⊎_, inl, inr, ⊎-elim, _↔_}
 use native.Mathlib.Omega.{arith}
-use lib.ListN.{length, getD, drop, replicate, length-replicate}
-use lib.Seq.{take-at, drop-at}
+use native.Mathlib.Decide.{decLt}
+use lib.ListN.{length, getD, take, drop, length-drop, length-replicate}
+use lib.Seq.{length-take-le, take-at, drop-at}
 use lib.Dec.{T}
 use Rattle.rules.specs.Bits.{inString, atDepth}
 use Rattle.rules.specs.Faults.{Verdict, sound, faulty, closesNone, opensOver, atEnd, faultFrom, faultOf}
@@ -22,13 +23,18 @@ use Rattle.index.specs.declared.Fault.the-variants.{Closer, Opener, InString, I
 use Rattle.index.specs.Answers.{refusalNumber, faultNumber, faultPlace, numberOf, Check}
 use Rattle.index.specs.Numbers.{number, numbers, First, NoneHolds, Exactly}
 use Rattle.index.proofs.AnswerLaws.{refusal-range, done-other, fault-other, no-hit, rising, exactly}
+use Rattle.index.specs.Closing.{unlessRefused}
 use Rattle.runs.specs.Runs.{verdictOf}
-use Rattle.lines.specs.Jobs.{lineOf, faultNamed, ofVerdict, verdictWords, frontChecks, frontAnswer, unlessRefused, frontWords, numbered, lineAnswer, lineWords, lineNumber, linePlace}
+use Rattle.lines.specs.Jobs.{startIn, endIn, lineAt, bytesAt, lineOf, faultNamed, ofVerdict, verdictWords, frontChecks, frontAnswer, frontWords, numbered, lineAnswer, lineWords, lineNumber}
 use Rattle.lines.specs.declared.LineAnswer.{LineAnswer}
 use Rattle.lines.specs.declared.LineAnswer.the-variants as line
+use Rattle.lines.specs.Tables.{entriesOf}
+use Rattle.lines.specs.declared.Line.{Line}
+use Rattle.lines.specs.declared.Line.the-variants.{End}
+use Rattle.lines.proofs.WhereLaws.{at-behind, at-turned, at-past, at-part}
 use Rattle.lines.proofs.VerdictLaws.{named, fault-range}
 use Rattle.paths.proofs.PlaceLaws.{pick-ind}
-use Rattle.linewise.specs.Answers.{frontOf, Taken}
+use Rattle.linewise.specs.Answers.{frontOf, NotRefused}
 
 -- ---- the faults that there are
 
@@ -106,6 +112,46 @@ module _ (text table : List ℕ) (i levels w : ℕ) where
       go Done = refl
       go (Refused x) = refl
       go (Faulty f) = refl
+
+  -- the line is empty, so that 1 comes: its number is behind the table, or its entry is no part of the text with a byte
+  pub line-empty : (length bytes ≡ 0) ↔ ((entriesOf table ≤ i) ⊎ ((endIn table i ≤ startIn table i) ⊎ (length text < endIn table i)))
+  unfolding lineOf
+  line-empty = (λ z. there z (decLt i (entriesOf table)) (decLt (startIn table i) (endIn table i)) (decLt (length text) (endIn table i)), back)
+    where
+      n : ℕ
+      n = length text
+
+      there : length bytes ≡ 0 → Dec (i < entriesOf table) → Dec (startIn table i < endIn table i) → Dec (n < endIn table i)
+          → (entriesOf table ≤ i) ⊎ ((endIn table i ≤ startIn table i) ⊎ (n < endIn table i))
+      there z (no l) o p = inl (omega (arith, l))
+      there z (yes l) (no o) p = inr (inl (omega (arith, o)))
+      there z (yes l) (yes o) (yes p) = inr (inr p)
+      there z (yes l) (yes o) (no p) =
+          let long = length-take-le (endIn table i - startIn table i) (drop (startIn table i) text) (omega (arith, p, length-drop (startIn table i) text)) in
+          absurd (omega (arith, o, sym (ap (λ (x : Line). length (bytesAt text x)) (at-part n table i l (omega (arith, o)) (omega (arith, p)))) ∙ z, long))
+
+      none : lineAt n table i ≡ End → length bytes ≡ 0
+      none e = ap (λ (x : Line). length (bytesAt text x)) e
+
+      nothing : i < entriesOf table → endIn table i ≤ startIn table i → Dec (endIn table i < startIn table i) → Dec (n < endIn table i) → length bytes ≡ 0
+      nothing l o (yes t) p = none (at-turned n table i l t)
+      nothing l o (no t) (yes p) = none (at-past n table i l (omega (arith, t)) p)
+      nothing l o (no t) (no p) =
+          let zero : endIn table i - startIn table i ≡ 0 = omega (arith, o) in
+          ap (λ (x : Line). length (bytesAt text x)) (at-part n table i l (omega (arith, t)) (omega (arith, p))) ∙ ap (λ (k : ℕ). length (take k (drop (startIn table i) text))) zero
+
+      behind : i < entriesOf table → n < endIn table i → Dec (endIn table i < startIn table i) → length bytes ≡ 0
+      behind l p (yes t) = none (at-turned n table i l t)
+      behind l p (no t) = none (at-past n table i l (omega (arith, t)) p)
+
+      in-table : Dec (i < entriesOf table) → (i < entriesOf table → length bytes ≡ 0) → length bytes ≡ 0
+      in-table (yes l) f = f l
+      in-table (no l) f = none (at-behind n table i (omega (arith, l)))
+
+      back : (entriesOf table ≤ i) ⊎ ((endIn table i ≤ startIn table i) ⊎ (n < endIn table i)) → length bytes ≡ 0
+      back (inl l) = none (at-behind n table i l)
+      back (inr (inl o)) = in-table (decLt i (entriesOf table)) (λ l. nothing l o (decLt (endIn table i) (startIn table i)) (decLt n (endIn table i)))
+      back (inr (inr p)) = in-table (decLt i (entriesOf table)) (λ l. behind l p (decLt (endIn table i) (startIn table i)))
 
   -- 1 to 4 each exactly when its condition holds and no earlier one does, and no other refusal
   pub line-numbers : (k : ℕ) → k < 4 → (lineNumber r ≡ k + 1) ↔ First (frontChecks (length bytes) w levels) k
@@ -187,11 +233,11 @@ module _ (text table words : List ℕ) (i levels : ℕ) where
   own = lineOf text table i
 
   -- a taken one makes the front: the index of a sound line, zeros of a faulty one
-  pub line-front : Taken (lineAnswer text table i levels (length words)) → frontOf own levels (lineWords text table i levels words) ≡ verdictWords (faultOf own) own levels
+  pub line-front : NotRefused (lineAnswer text table i levels (length words)) → frontOf own levels (lineWords text table i levels words) ≡ verdictWords (faultOf own) own levels
   unfolding lineAnswer lineWords frontWords
   line-front t = go (frontAnswer own levels (length words)) t
     where
-      go : (a : Answer) → Taken (numbered i a) → frontOf own levels (unlessRefused a (verdictWords (faultOf own) own levels ++ drop (sizeOf levels (length own)) words) words) ≡ verdictWords (faultOf own) own levels
+      go : (a : Answer) → NotRefused (numbered i a) → frontOf own levels (unlessRefused a (verdictWords (faultOf own) own levels ++ drop (sizeOf levels (length own)) words) words) ≡ verdictWords (faultOf own) own levels
       go Done t = take-at (verdictWords (faultOf own) own levels) _ _ (length-verdict (faultOf own) own levels)
       go (Refused x) t = absurd (⊎-elim (λ q. omega (arith, q, refusal-range x)) (λ q. omega (arith, q, refusal-range x)) t)
       go (Faulty f) t = take-at (verdictWords (faultOf own) own levels) _ _ (length-verdict (faultOf own) own levels)

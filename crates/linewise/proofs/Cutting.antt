@@ -10,28 +10,27 @@ use native.Mathlib.Nat.{eq-or-lt-of-le}
 use native.Mathlib.Decide.{decLt}
 use lib.ListN.{length}
 use borrow.Author.Tests.{ltb-true, lt-ltb, not-false}
-use Rattle.rules.proofs.Booleans.{impossible}
 use Rattle.paths.specs.Places.{byteIn, firstAt}
-use Rattle.paths.proofs.PlaceLaws.{first-ge, first-le, first-hit, first-miss, first-at, first-all}
+use Rattle.paths.proofs.PlaceLaws.{first-ge, first-hit, first-miss, first-at, first-all}
 use Rattle.query.specs.Items.{solid}
-use Rattle.lines.specs.Lines.{Entry, isFeed, lineEnd, isBlankLine, lines, linesFrom, firstOf, lineFrom, IsLine}
+use Rattle.lines.specs.Lines.{Entry, feedAt, lineEnd, isBlankLine, lines, linesFrom, headLine, lineFrom, IsLine}
 use Rattle.lines.specs.declared.Line.the-variants.{At, End}
 use Rattle.lines.proofs.LineLaws.{here, end-bounds, none-behind, blank-passed, line-here, Listed, next-at, next-end, Next, none, one, next}
-use Rattle.linewise.specs.Cutting.{Among, Rise, Begins, NextLine}
+use Rattle.linewise.specs.Cutting.{Among, Rise, LineBegins, NextLine}
 
 module _ (text : List ℕ) where
   -- ---- the line that begins at a
 
   -- a line that is not blank, from a place where one begins
-  is-line : (a : ℕ) → a < length text → Begins text a → isBlankLine text a (lineEnd text a) ≡ false → IsLine text (here text a)
+  is-line : (a : ℕ) → a < length text → LineBegins text a → isBlankLine text a (lineEnd text a) ≡ false → IsLine text (here text a)
   unfolding lineEnd isBlankLine
   is-line a l b s =
       let o = end-bounds text a (omega arith) in
       let hit : firstAt (solid (byteIn text)) a (lineEnd text a) < lineEnd text a = ltb-true _ _ (not-false _ s) in
       record {
         begins = b;
-        ends = ⊎-elim (λ e. inl e) (λ h. inr (h, first-hit (isFeed text) a (length text) (omega arith) h)) (eq-or-lt-of-le (o .1));
-        whole = first-miss (isFeed text) a (length text) (omega arith);
+        ends = ⊎-elim (λ e. inl e) (λ h. inr (h, first-hit (feedAt text) a (length text) (omega arith) h)) (eq-or-lt-of-le (o .1));
+        whole = first-miss (feedAt text) a (length text) (omega arith);
         solid-at = firstAt (solid (byteIn text)) a (lineEnd text a);
         within = (first-ge (solid (byteIn text)) a (lineEnd text a) (o .0), hit);
         not-blank = first-hit (solid (byteIn text)) a (lineEnd text a) (o .0) hit;
@@ -42,10 +41,10 @@ module _ (text : List ℕ) where
   unfolding lineEnd
   the-end e i = go (i .ends)
     where
-      go : (e .end ≡ length text) ⊎ ((e .end < length text) × (isFeed text (e .end) ≡ true)) → lineEnd text (e .start) ≡ e .end
+      go : (e .end ≡ length text) ⊎ ((e .end < length text) × (feedAt text (e .end) ≡ true)) → lineEnd text (e .start) ≡ e .end
       go (inl q) =
-          first-all (isFeed text) (e .start) (length text) (omega (arith, i .within, q)) (λ k l m. i .whole k l (omega (arith, q))) ∙ sym q
-      go (inr q) = first-at (isFeed text) (e .start) (e .end) (length text) (omega (arith, i .within)) (q .0) (i .whole) (q .1)
+          first-all (feedAt text) (e .start) (length text) (omega (arith, i .within, q)) (λ k l m. i .whole k l (omega (arith, q))) ∙ sym q
+      go (inr q) = first-at (feedAt text) (e .start) (e .end) (length text) (omega (arith, i .within)) (q .0) (i .whole) (q .1)
 
   not-blank : (e : Entry) → IsLine text e → isBlankLine text (e .start) (e .end) ≡ false
   unfolding isBlankLine
@@ -56,7 +55,7 @@ module _ (text : List ℕ) where
       go (no n) =
           absurd (true≢false (sym (i .not-blank) ∙ first-miss (solid (byteIn text)) (e .start) (e .end) (omega (arith, i .within)) (i .solid-at) (i .within .0) (omega (arith, i .within))))
 
-  inside : (e : Entry) → IsLine text e → e .end ≤ length text
+  pub inside : (e : Entry) → IsLine text e → e .end ≤ length text
   inside e i = ⊎-elim (λ q. omega (arith, q)) (λ q. omega (arith, q .0)) (i .ends)
 
   same : (e : Entry) → IsLine text e → (a : ℕ) → a ≡ e .start → e ≡ here text a
@@ -67,21 +66,21 @@ module _ (text : List ℕ) where
   unfolding lineEnd
   before e i a l = go (i .begins)
     where
-      go : Begins text (e .start) → lineEnd text a + 1 ≤ e .start
+      go : LineBegins text (e .start) → lineEnd text a + 1 ≤ e .start
       go (inl q) = absurd (omega (arith, q))
       go (inr (p, q, f)) = by (decLt p (lineEnd text a))
         where
           by : Dec (p < lineEnd text a) → lineEnd text a + 1 ≤ e .start
-          by (yes h) = absurd (true≢false (sym f ∙ first-miss (isFeed text) a (length text) (omega (arith, i .within, inside e i)) p (omega (arith, q)) h))
+          by (yes h) = absurd (true≢false (sym f ∙ first-miss (feedAt text) a (length text) (omega (arith, i .within, inside e i)) p (omega (arith, q)) h))
           by (no h) = omega (arith, q, h)
 
   -- ---- listed, and a line
 
   -- behind an LF a line begins; behind the end nothing does
-  behind-begins : (a : ℕ) → a < length text → (Begins text (lineEnd text a + 1)) ⊎ (length text ≤ lineEnd text a + 1)
+  behind-begins : (a : ℕ) → a < length text → (LineBegins text (lineEnd text a + 1)) ⊎ (length text ≤ lineEnd text a + 1)
   unfolding lineEnd
   behind-begins a l =
-      ⊎-elim (λ e. inr (omega (arith, e))) (λ h. inl (inr (lineEnd text a, omega arith, first-hit (isFeed text) a (length text) (omega arith) h)))
+      ⊎-elim (λ e. inr (omega (arith, e))) (λ h. inl (inr (lineEnd text a, omega arith, first-hit (feedAt text) a (length text) (omega arith) h)))
       (eq-or-lt-of-le (end-bounds text a (omega arith) .1))
 
   -- what the cutting lists from a on is a line there
@@ -94,15 +93,15 @@ module _ (text : List ℕ) where
   further : (a b : ℕ) → a ≤ b → Right b → (e : Entry) → Among e (linesFrom text b) → IsLine text e × (a ≤ e .start)
   further a b l r e m = let i = r e m in (i .0, omega (arith, i .1))
 
-  listed-line : (k a : ℕ) → length text ≤ a + k → Begins text a → Right a
+  listed-line : (k a : ℕ) → length text ≤ a + k → LineBegins text a → Right a
   listed-line zero a l b = nothing-listed a (omega arith)
   listed-line (suc k) a l b = go (decLt a (length text)) (isBlankLine text a (lineEnd text a)) refl (λ h. listed-line k (lineEnd text a + 1) (omega (arith, end-bounds text a h)))
     where
-      rest : a < length text → (a ≤ length text → Begins text (lineEnd text a + 1) → Right (lineEnd text a + 1)) → (Begins text (lineEnd text a + 1)) ⊎ (length text ≤ lineEnd text a + 1) → Right (lineEnd text a + 1)
+      rest : a < length text → (a ≤ length text → LineBegins text (lineEnd text a + 1) → Right (lineEnd text a + 1)) → (LineBegins text (lineEnd text a + 1)) ⊎ (length text ≤ lineEnd text a + 1) → Right (lineEnd text a + 1)
       rest h r (inl c) = r (omega arith) c
       rest h r (inr c) = nothing-listed (lineEnd text a + 1) c
 
-      go : Dec (a < length text) → (s : Bool) → isBlankLine text a (lineEnd text a) ≡ s → (a ≤ length text → Begins text (lineEnd text a + 1) → Right (lineEnd text a + 1)) → Right a
+      go : Dec (a < length text) → (s : Bool) → isBlankLine text a (lineEnd text a) ≡ s → (a ≤ length text → LineBegins text (lineEnd text a + 1) → Right (lineEnd text a + 1)) → Right a
       go (no n) s q r e m = nothing-listed a (omega arith) e m
       go (yes h) true q r e m =
           further a (lineEnd text a + 1) (omega (arith, end-bounds text a (omega arith))) (rest h r (behind-begins a h)) e (subst (Among e) (blank-passed text a h q) m)
@@ -150,7 +149,7 @@ module _ (text : List ℕ) where
   behind b (e ∷ es) f r (inl q) = omega (arith, r .0, ap (λ (x : Entry). x .start) q)
   behind b (e ∷ es) f r (inr m) = omega (arith, r .0, r .1 .0, behind (e .end + 1) es f (r .1 .1) m)
 
-  module _ (a : ℕ) (b : Begins text a) where
+  module _ (a : ℕ) (b : LineBegins text a) where
     -- the one that the cutting finds
     found : (s e : ℕ) → Listed text a s e → NextLine text a (record { start = s; end = e })
     found s e d =
@@ -175,7 +174,7 @@ module _ (text : List ℕ) where
       where
         back : NextLine text a (record { start = s; end = e }) → Next text a → lineFrom text a ≡ At s e
         back n (none z) = absurd (subst (Among (record { start = s; end = e })) z (line-listed (length text) a (omega arith) _ (n .is-line) (n .behind)))
-        back n (one t f d) = ap firstOf (d .listed) ∙ ap (λ (x : Entry). At (x .start) (x .end)) (one-next _ _ (found t f d) n)
+        back n (one t f d) = ap headLine (d .listed) ∙ ap (λ (x : Entry). At (x .start) (x .end)) (one-next _ _ (found t f d) n)
 
     -- and none where none of them begins there or behind
     pub none-exactly : (lineFrom text a ≡ End) ↔ ((e : Entry) → IsLine text e → e .start < a)
@@ -187,5 +186,5 @@ module _ (text : List ℕ) where
         early e i z (no l) = absurd (subst (Among e) z (line-listed (length text) a (omega arith) e i (omega arith)))
 
         back : ((e : Entry) → IsLine text e → e .start < a) → Next text a → lineFrom text a ≡ End
-        back n (none z) = ap firstOf z
+        back n (none z) = ap headLine z
         back n (one t f d) = let x = found t f d in absurd (omega (arith, x .behind, n _ (x .is-line)))

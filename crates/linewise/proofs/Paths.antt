@@ -9,16 +9,15 @@ use Rattle.rules.specs.Faults.{sound, faultOf}
 use Rattle.rules.specs.Layout.{index, Promise}
 use Rattle.rules.proofs.LayoutLaws.{index-holds}
 use Rattle.index.specs.declared.Answer.the-variants.{Done}
-use Rattle.json.specs.Demand2.{Obeys}
 use Rattle.json.proofs.Paths.{value-some, claim}
-use Rattle.lines.specs.Jobs.{lineOf, verdictWords, numbered, lineAnswer, lineWords, lineNumber}
+use Rattle.lines.specs.Jobs.{lineOf, numbered, lineAnswer, lineWords, lineNumber}
 use Rattle.lines.specs.declared.LineAnswer.the-variants as line
 use Rattle.lines.proofs.VerdictLaws.{Judged, front-made}
-use Rattle.linewise.specs.Answers.{Room, frontOf}
-use Rattle.linewise.specs.Paths.{Demand2}
+use Rattle.linewise.specs.Answers.{frontOf}
+use Rattle.linewise.specs.Paths.{LineDemand2}
 use Rattle.linewise.proofs.Answers.{line-front}
 
-pub line-paths : Demand2
+pub line-paths : LineDemand2
 unfolding lineAnswer
 line-paths text table words i levels t small range room =
     (done, λ path ss w. claim .selected bytes (frontOf bytes levels (lineWords text table i levels words)) levels path ss t (record { size = small; range = range; promised = promised; within = w }))

@@ -14,8 +14,8 @@ use Rattle.texts.specs.Texts.{bytes}
 use Rattle.names.specs.Spelling.{same}
 use Rattle.paths.specs.Places.{byteIn, firstIn, firstAt}
 use Rattle.query.specs.Items.{isBlank}
-use Rattle.lines.specs.Lines.{isFeed, lineEnd, isBlankLine, linesIn, linesFrom, lines}
-use Rattle.lines.specs.Tables.{tabledNumber, tabledCount, entries, filled, tableAnswer, tableAfter}
+use Rattle.lines.specs.Lines.{feedAt, lineEnd, isBlankLine, linesIn, linesFrom, lines}
+use Rattle.lines.specs.Tables.{tabledNumber, tabledCount, entries, tableWith, tableAnswer, tableAfter}
 use Rattle.lines.specs.Jobs.{lineAt, lineOf, frontChecks, frontAnswer, frontWords, lineAnswer, lineWords, lineNumber, linePlace}
 
 -- ---- a text, and the starts and ends of its lines
@@ -151,11 +151,11 @@ allIndexed (r ∷ rs) =
     && allIndexed rs
 
 pub cut-rows : T (allCut cuts)
-unfolding allCut cuts cut same entries linesFrom linesIn lineEnd isBlankLine isFeed byteIn firstAt firstIn isBlank
+unfolding allCut cuts cut same entries linesFrom linesIn lineEnd isBlankLine feedAt byteIn firstAt firstIn isBlank
 cut-rows = tt
 
 pub table-rows : T (allTabled tablings)
-unfolding allTabled tablings three same entries filled tableAnswer tableAfter linesFrom linesIn lineEnd isBlankLine isFeed byteIn firstAt firstIn isBlank
+unfolding allTabled tablings three same entries tableWith tableAnswer tableAfter linesFrom linesIn lineEnd isBlankLine feedAt byteIn firstAt firstIn isBlank
 table-rows = tt
 
 pub line-rows : T (allIndexed indexings)

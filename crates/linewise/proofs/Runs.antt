@@ -2,7 +2,7 @@
 use Prim.Native.Nat.{ℕ}
 use mathlib.Core.Path.{_≡_, refl, sym, ap, _∙_}
 use mathlib.Core.List.{List}
-use mathlib.Core.Logic.{_⊎_, inl, inr}
+use mathlib.Core.Logic.{inl, inr}
 use lib.ListN.{length}
 use lib.Seq.{take-at}
 use borrow.Author.Tests.{le-ltb}
@@ -14,7 +14,7 @@ use Rattle.runs.specs.Runs.{ClosedRun}
 use Rattle.runs.proofs.Theorems.{was-good}
 use Rattle.lines.specs.Jobs.{lineOf, verdictWords, frontChecks, frontAnswer, numbered, lineAnswer, lineWords}
 use Rattle.lines.proofs.VerdictLaws.{run-judged, front-made}
-use Rattle.linewise.specs.Answers.{Room, frontOf, Taken, SameAnswer}
+use Rattle.linewise.specs.Answers.{Room, frontOf, NotRefused, SameAnswer}
 use Rattle.linewise.proofs.Answers.{length-verdict, line-front}
 
 -- any closed run over a line's bytes, with any cuts, guesses and order, has that call's answer and front words
@@ -52,13 +52,13 @@ alike text table words i other also more j levels same room space =
 pub line-alone : (text table words : List ℕ) (i : ℕ) (other also more : List ℕ) (j levels : ℕ) → lineOf text table i ≡ lineOf other also j
     → Room (lineOf text table i) levels words → Room (lineOf other also j) levels more
     → SameAnswer (lineAnswer text table i levels (length words)) (lineAnswer other also j levels (length more))
-    × (Taken (lineAnswer text table i levels (length words)) → frontOf (lineOf text table i) levels (lineWords text table i levels words) ≡ frontOf (lineOf other also j) levels (lineWords other also j levels more))
+    × (NotRefused (lineAnswer text table i levels (length words)) → frontOf (lineOf text table i) levels (lineWords text table i levels words) ≡ frontOf (lineOf other also j) levels (lineWords other also j levels more))
 line-alone text table words i other also more j levels same room space =
     (answers, λ t. line-front text table words i levels t ∙ ap (λ (b : List ℕ). verdictWords (faultOf b) b levels) same ∙ sym (line-front other also more j levels (taken t)))
   where
     answers : SameAnswer (lineAnswer text table i levels (length words)) (lineAnswer other also j levels (length more))
     answers = alike text table words i other also more j levels same room space
 
-    taken : Taken (lineAnswer text table i levels (length words)) → Taken (lineAnswer other also j levels (length more))
+    taken : NotRefused (lineAnswer text table i levels (length words)) → NotRefused (lineAnswer other also j levels (length more))
     taken (inl q) = inl (sym (answers .0) ∙ q)
     taken (inr q) = inr (rw (← answers .0) q)

@@ -1,21 +1,23 @@
 -- Each number of a table exactly under its condition, and what a refused and a made table hold.
-use Prim.Native.Nat.{ℕ, suc, _+_, _*_, _-_, _/_, _≤_, _<_}
-use mathlib.Core.Path.{_≡_, refl, sym, ap, _∙_}
+use Prim.Native.Nat.{ℕ, zero, suc, _+_, _*_, _-_, _/_, _≤_, _<_}
+use mathlib.Core.Path.{_≡_, refl, sym, ap, ap₂, _∙_, subst}
 use mathlib.Core.List.{List, [], _∷_, _++_, append-assoc}
-use mathlib.Core.Logic.{_⊎_, inl, inr}
+use mathlib.Core.Logic.{inl, inr}
 use native.Mathlib.Omega.{arith}
+use native.Mathlib.Nat.{add-zero, zero-add}
 use native.Mathlib.Decide.{ℕ-discrete, decLt}
-use lib.ListN.{length, getD, drop, length-append, length-drop}
+use lib.ListN.{length, getD, take, drop, length-append, length-drop}
 use lib.Seq.{getD-at, getD-append-add, getD-drop}
-use Rattle.rules.proofs.Booleans.{impossible}
-use Rattle.lines.specs.Lines.{Entry, lines}
-use Rattle.lines.specs.Tables.{tabledNumber, entriesOf, entries, filled, tableAnswer, onTabled, tableAfter}
+use Rattle.lines.specs.Lines.{Entry, lines, IsLine}
+use Rattle.lines.specs.Tables.{tabledNumber, entriesOf, entries, tableWith, tableAnswer, onTabled, tableAfter}
 use Rattle.lines.specs.declared.Tabled.{Tabled}
 use Rattle.lines.specs.declared.Tabled.the-variants as tabled
-use Rattle.lines.specs.declared.TableRefusal.{TableRefusal}
-use Rattle.lines.specs.declared.TableRefusal.the-variants.{Empty, TooLong, ManyLines}
+use Rattle.lines.proofs.WhereLaws.{at-part}
 use Rattle.lines.proofs.TableLaws.{length-entries, table-empty, table-long, table-many, table-made}
-use Rattle.linewise.specs.Cutting.{TableNumbers, Holds, Made}
+use Rattle.lines.specs.Jobs.{lineAt, bytesAt, lineOf}
+use Rattle.lines.specs.declared.Line.the-variants.{At}
+use Rattle.linewise.specs.Cutting.{Among, TableNumbers, EntryIs, Entered, Made}
+use Rattle.linewise.proofs.Cutting.{inside, lines-exactly}
 
 module _ (text table : List ℕ) where
   abbrev n : ℕ
@@ -80,7 +82,7 @@ module _ (text table : List ℕ) where
   unfolding tableAfter
   table-refused other = go (tableAnswer text table) other
     where
-      go : (t : Tabled) → (tabledNumber t ≡ 0 → ⊥) → onTabled t (filled (lines text) table) table ≡ table
+      go : (t : Tabled) → (tabledNumber t ≡ 0 → ⊥) → onTabled t (tableWith (lines text) table) table ≡ table
       go (tabled.Lines k) o = absurd (o refl)
       go (tabled.Refused r) o = refl
 
@@ -90,18 +92,39 @@ module _ (text table : List ℕ) where
 
 -- ---- what a made table holds
 
-held : (es : List Entry) (i : ℕ) (before rest : List ℕ) → length before ≡ 2 * i → Holds (before ++ (entries es ++ rest)) i es
+held : (es : List Entry) (i : ℕ) (before rest : List ℕ) → length before ≡ 2 * i → Entered (before ++ (entries es ++ rest)) i es
 unfolding entries
 held [] i before rest l = tt
 held (e ∷ es) i before rest l =
     let two = length-append before (e .start ∷ e .end ∷ []) in (
-      getD-at before (e .start) (e .end ∷ (entries es ++ rest)) 0 (2 * i) l,
       (
+        getD-at before (e .start) (e .end ∷ (entries es ++ rest)) 0 (2 * i) l,
         ap (λ (t : List ℕ). getD t (2 * i + 1) 0) (sym (append-assoc before (e .start ∷ []) (e .end ∷ (entries es ++ rest))))
             ∙ getD-at (before ++ e .start ∷ []) (e .end) (entries es ++ rest) 0 (2 * i + 1) (length-append before (e .start ∷ []) ∙ omega (arith, l)),
-        rw (← append-assoc before (e .start ∷ e .end ∷ []) (entries es ++ rest)) (held es (suc i) (before ++ e .start ∷ e .end ∷ []) rest (two ∙ omega (arith, l))),
       ),
+      rw (← append-assoc before (e .start ∷ e .end ∷ []) (entries es ++ rest)) (held es (suc i) (before ++ e .start ∷ e .end ∷ []) rest (two ∙ omega (arith, l))),
     )
+
+-- an entry by its number, and the number of one
+entry-at : (table : List ℕ) (es : List Entry) (i k : ℕ) → Entered table i es → k < length es → (e : Entry) × (Among e es × EntryIs table (i + k) e)
+entry-at table [] i k h l = absurd (omega arith)
+entry-at table (e ∷ es) i zero h l = (e, (inl refl, rw add-zero (h .0)))
+entry-at table (e ∷ es) i (suc k) h l =
+    let f = entry-at table es (suc i) k (h .1) (omega arith) in
+    let same : suc i + k ≡ i + suc k = omega arith in
+    (f .0, (inr (f .1 .0), rw (← same) (f .1 .1)))
+
+number-of : (table : List ℕ) (es : List Entry) (i : ℕ) (e : Entry) → Entered table i es → Among e es → (k : ℕ) × ((k < length es) × EntryIs table (i + k) e)
+number-of table [] i e h m = absurd m
+number-of table (f ∷ es) i e h (inl q) = (0, (omega arith, rw (add-zero, q) (h .0)))
+number-of table (f ∷ es) i e h (inr m) =
+    let n = number-of table es (suc i) e (h .1) m in
+    let same : suc i + n .0 ≡ i + suc (n .0) = omega arith in
+    (suc (n .0), (omega (arith, n .1 .0), rw (← same) (n .1 .1)))
+
+-- an entry that is a part of the text lies there
+line-there : (n : ℕ) (table : List ℕ) (i : ℕ) (e : Entry) → EntryIs table i e → i < entriesOf table → e .start ≤ e .end → e .end ≤ n → lineAt n table i ≡ At (e .start) (e .end)
+line-there n table i e is l o p = at-part n table i l (omega (arith, is, o)) (omega (arith, is, p)) ∙ ap₂ At (is .0) (is .1)
 
 module _ (text table : List ℕ) (made : tabledNumber (tableAnswer text table) ≡ 0) where
   conditions : (1 ≤ length text) × ((length text ≤ 16777216) × (length (lines text) ≤ length table / 2))
@@ -109,7 +132,7 @@ module _ (text table : List ℕ) (made : tabledNumber (tableAnswer text table) �
 
   -- it answers how many lines there are, and lists them
   pub table-lists : (tableAnswer text table ≡ tabled.Lines (length (lines text))) × Made text table (tableAfter text table)
-  unfolding filled
+  unfolding tableWith
   table-lists =
       let t = table-made text table (conditions .0) (conditions .1 .0) (conditions .1 .1) refl in
       let k = length-entries (lines text) in
@@ -117,7 +140,7 @@ module _ (text table : List ℕ) (made : tabledNumber (tableAnswer text table) �
         sym (t .0),
         rw (← t .1)
             (record {
-              entered = held (lines text) 0 [] rest refl;
+              lists = held (lines text) 0 [] rest refl;
               behind = λ j l.
                   let at : length (entries (lines text)) + (j - 2 * length (lines text)) ≡ j = omega (arith, k, l) in
                   let back : 2 * length (lines text) + (j - 2 * length (lines text)) ≡ j = omega (arith, l) in
@@ -126,3 +149,21 @@ module _ (text table : List ℕ) (made : tabledNumber (tableAnswer text table) �
               as-long = length-append (entries (lines text)) rest ∙ omega (arith, k, length-drop (2 * length (lines text)) table, conditions .1 .1);
             }),
       )
+
+  abbrev after : List ℕ
+  after = tableAfter text table
+
+  -- its line i is a line of the text, and that line's bytes are indexed
+  pub made-line : (i : ℕ) → i < length (lines text) → (e : Entry) × (IsLine text e × (EntryIs after i e × (lineOf text after i ≡ take (e .end - e .start) (drop (e .start) text))))
+  unfolding lineOf
+  made-line i l =
+      let f = entry-at after (lines text) 0 i (table-lists .1 .lists) l in
+      let is = lines-exactly text (f .0) .0 (f .1 .0) in
+      let own : EntryIs after i (f .0) = subst (λ (k : ℕ). EntryIs after k (f .0)) (zero-add i) (f .1 .1) in
+      (f .0, (is, (own, ap (bytesAt text) (line-there (length text) after i (f .0) own (omega (arith, l, table-lists .1 .as-long, conditions .1 .1)) (omega (arith, is .within)) (inside text (f .0) is)))))
+
+  -- and each line of the text is one of its lines
+  pub line-made : (e : Entry) → IsLine text e → (i : ℕ) × ((i < length (lines text)) × EntryIs after i e)
+  line-made e is =
+      let n = number-of after (lines text) 0 e (table-lists .1 .lists) (lines-exactly text e .1 is) in
+      (n .0, (n .1 .0, subst (λ (k : ℕ). EntryIs after k e) (zero-add (n .0)) (n .1 .1)))

@@ -17,8 +17,8 @@ abbrev pub frontOf : List ℕ → ℕ → List ℕ → List ℕ
 frontOf bytes levels words = take (sizeOf levels (length bytes)) words
 
 -- 0, or a fault
-abbrev pub Taken : LineAnswer → Type 0
-Taken r = (lineNumber r ≡ 0) ⊎ (13 ≤ lineNumber r)
+abbrev pub NotRefused : LineAnswer → Type 0
+NotRefused r = (lineNumber r ≡ 0) ⊎ (13 ≤ lineNumber r)
 
 -- all but the line's number in its table, which is each caller's own
 abbrev pub SameAnswer : LineAnswer → LineAnswer → Type 0

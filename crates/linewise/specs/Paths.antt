@@ -13,8 +13,8 @@ use Rattle.lines.specs.declared.LineAnswer.the-variants as line
 use Rattle.linewise.specs.Answers.{Room, frontOf}
 
 -- whatever the text about the line, the table, and the first contents of the words
-abbrev pub Demand2 : Type 0
-Demand2 = (text table words : List ℕ) (i levels : ℕ) (t : Obeys (lineOf text table i)) → length (lineOf text table i) ≤ 16777216 → In 1 16 levels → Room (lineOf text table i) levels words
+abbrev pub LineDemand2 : Type 0
+LineDemand2 = (text table words : List ℕ) (i levels : ℕ) (t : Obeys (lineOf text table i)) → length (lineOf text table i) ≤ 16777216 → In 1 16 levels → Room (lineOf text table i) levels words
     → (lineAnswer text table i levels (length words) ≡ line.Done)
     × ((path : List ℕ) (ss : List Selector) → Within levels path ss
     → Selects (lineOf text table i) (select ss (root t)) (answerOf (lineOf text table i) (frontOf (lineOf text table i) levels (lineWords text table i levels words)) levels path))

@@ -1,12 +1,11 @@
 -- The loop keeps that the first LF from there on is the one from a on, since there is none among the 16 bytes that are passed.
-use Prim.Native.Nat.{ℕ, _+_, _-_, _≤_}
+use Prim.Native.Nat.{_+_, _-_, _≤_}
 use mathlib.Core.Path.{_≡_, refl, sym, _∙_}
 use native.Mathlib.Omega.{arith}
 use lib.ListN.{length}
 use borrow.Author.Tests.{ne-eqb}
-use borrow.Author.Needs.{needs}
 use Rattle.paths.proofs.PlaceLaws.{first-skip}
-use Rattle.lines.specs.Lines.{isFeed, lineEnd}
+use Rattle.lines.specs.Lines.{feedAt, lineEnd}
 use Rattle.lines.proofs.cutting.line_end.Statement.{statement}
 use Rattle.lines.proofs.cutting.line_end.Tie as tie
 
@@ -38,11 +37,11 @@ loop-less : tie.Need-loop-less Inv-loop μ-loop
 loop-less c = omega arith
 
 loop-again : tie.Need-loop-again Inv-loop μ-loop
-unfolding lineEnd isFeed
+unfolding lineEnd feedAt
 loop-again c =
     let a = c .before .before .before .before .before .args in
     let l = c .before .before .before .loop in
-    (omega arith, l .inv .1 ∙ first-skip (isFeed (a .text .now)) (l .at) (l .at + 16) (length (a .text .now)) (omega arith) (omega arith) (λ i h m. ne-eqb _ 10 (c .before .any-of .ensures (c .if1 .left) i h m)))
+    (omega arith, l .inv .1 ∙ first-skip (feedAt (a .text .now)) (l .at) (l .at + 16) (length (a .text .now)) (omega arith) (omega arith) (λ i h m. ne-eqb _ 10 (c .before .any-of .ensures (c .if1 .left) i h m)))
 
 next-feed-requires-2 : tie.Need-next-feed-requires-2 Inv-loop μ-loop
 next-feed-requires-2 c κs = omega arith

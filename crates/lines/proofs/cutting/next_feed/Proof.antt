@@ -4,9 +4,9 @@ use mathlib.Core.Path.{_≡_, refl, sym, _∙_}
 use native.Mathlib.Omega.{arith}
 use lib.ListN.{length}
 use borrow.Author.Tests.{eq-eqb, ne-eqb}
-use Rattle.paths.specs.Places.{byteIn, firstAt}
+use Rattle.paths.specs.Places.{byteIn}
 use Rattle.paths.proofs.PlaceLaws.{first-none, first-here, first-next}
-use Rattle.lines.specs.Lines.{isFeed, lineEnd}
+use Rattle.lines.specs.Lines.{feedAt, lineEnd}
 use Rattle.lines.proofs.cutting.next_feed.Statement.{statement}
 use Rattle.lines.proofs.cutting.next_feed.Tie as tie
 
@@ -23,7 +23,7 @@ shared-slice-read-if1 : tie.Need-shared-slice-read-if1 Inv-loop μ-loop
 shared-slice-read-if1 c = omega arith
 
 returns : tie.Need-returns Inv-loop μ-loop
-unfolding lineEnd isFeed byteIn
+unfolding lineEnd feedAt byteIn
 returns c =
     let l = c .before .before .before .loop in
     sym (l .inv .1 ∙ first-here _ _ _ (omega arith) (eq-eqb _ _ (c .if1 .taken)))
@@ -35,7 +35,7 @@ loop-less : tie.Need-loop-less Inv-loop μ-loop
 loop-less c = omega arith
 
 loop-again : tie.Need-loop-again Inv-loop μ-loop
-unfolding lineEnd isFeed byteIn
+unfolding lineEnd feedAt byteIn
 loop-again c =
     let l = c .before .before .before .loop in
     (omega arith, l .inv .1 ∙ first-next _ _ _ (omega arith) (ne-eqb _ _ (c .if1 .left)))

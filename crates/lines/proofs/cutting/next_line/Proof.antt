@@ -1,10 +1,10 @@
 -- The loop keeps that the next line from there on is the one from `from` on.
 use Prim.Native.Nat.{_-_}
-use mathlib.Core.Path.{_≡_, refl, sym, ap, _∙_}
+use mathlib.Core.Path.{_≡_, refl, sym, _∙_}
 use native.Mathlib.Omega.{arith}
 use lib.ListN.{length}
 use borrow.Author.Tests.{not-true, not-false}
-use Rattle.lines.specs.Lines.{isBlankLine, lineFrom}
+use Rattle.lines.specs.Lines.{lineFrom}
 use Rattle.lines.proofs.LineLaws.{end-bounds, next-none, next-passed, next-here}
 use Rattle.lines.proofs.cutting.next_line.Statement.{statement}
 use Rattle.lines.proofs.cutting.next_line.Tie as tie

@@ -1,12 +1,8 @@
 -- Check by check; then the front is made, and what lies behind it stays.
-use mathlib.Core.Path.{_≡_, refl, sym, ap, _∙_}
-use mathlib.Core.Bool.{Bool, true, _||_}
+use mathlib.Core.Path.{sym, _∙_}
 use native.Mathlib.Omega.{arith}
-use lib.ListN.{length}
 use lib.Seq.{length-take-le}
-use lib.Dec.{eqb}
 use borrow.Author.Tests.{eq-eqb, ne-eqb, lt-ltb}
-use Rattle.lines.specs.Jobs.{Fits}
 use Rattle.lines.proofs.VerdictLaws.{front-empty, front-long, front-levels, front-short, front-made}
 use borrow.Author.Needs.{needs}
 use Rattle.lines.proofs.indexing.index_front.Statement.{statement}

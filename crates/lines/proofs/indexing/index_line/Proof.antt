@@ -4,7 +4,8 @@ use mathlib.Core.Path.{sym, ap, _∙_}
 use native.Mathlib.Omega.{arith}
 use lib.ListN.{length}
 use Rattle.lines.specs.Jobs.{numbered}
-use Rattle.lines.proofs.VerdictLaws.{line-nowhere, line-somewhere, line-part}
+use Rattle.lines.proofs.VerdictLaws.{line-nowhere, line-somewhere}
+use Rattle.lines.proofs.WhereLaws.{at-inside}
 use borrow.Author.Needs.{needs}
 use Rattle.lines.proofs.indexing.index_line.Statement.{statement}
 use Rattle.lines.proofs.indexing.index_line.Tie as tie
@@ -27,7 +28,7 @@ returns c =
 within : (c : tie.After-known-told) → (c .before .found .given .0 .0 ≤ c .before .found .given .0 .1 .0) × (c .before .found .given .0 .1 .0 ≤ length (c .before .before .before .before .before .before .before .args .text .now))
 within c =
     let a = c .before .before .before .before .before .before .before .args in
-    line-part (a .text .now) (a .table .now) (a .words .now) (a .i) (a .levels) (length (a .text .now)) _ _ (sym (c .before .before .before .line-at .ensures) ∙ c .before .found .given .1)
+    at-inside (length (a .text .now)) (a .table .now) (a .i) _ _ (sym (c .before .before .before .line-at .ensures) ∙ c .before .found .given .1)
 
 sub-index-front : tie.Need-sub-index-front
 sub-index-front c = omega (arith, within c)

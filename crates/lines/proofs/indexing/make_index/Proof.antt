@@ -1,6 +1,5 @@
 -- In balance: the line is sound, and one scan and one level make its index. Else the whole run tells.
 use mathlib.Core.Path.{sym, _∙_}
-use native.Mathlib.Omega.{arith}
 use Rattle.lines.proofs.VerdictLaws.{made-judged, plain-judged}
 use borrow.Author.Needs.{needs}
 use Rattle.lines.proofs.indexing.make_index.Statement.{statement}

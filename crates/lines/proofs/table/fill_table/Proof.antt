@@ -4,7 +4,6 @@ use mathlib.Core.Path.{refl, sym, ap, _∙_}
 use native.Mathlib.Omega.{arith}
 use lib.ListN.{length, length-set}
 use borrow.Author.Needs.{needs}
-use Rattle.lines.specs.Lines.{lines, linesFrom}
 use Rattle.lines.proofs.LineLaws.{Listed, next-at, next-end, none-behind}
 use Rattle.lines.proofs.TableLaws.{Filling, filling-turn, filling-done}
 use Rattle.lines.proofs.table.fill_table.Statement.{statement}
