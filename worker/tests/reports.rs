@@ -1,8 +1,10 @@
 //! The reports of the documents through the safe face, with the documents' own numbers as bytewise has copied them.
 
+use bytewise::line_reports::{self, LineCall, LineReport};
+use bytewise::lines::Indexed;
 use bytewise::path::{self, Found};
 use bytewise::reports::{self, Report as Said};
-use wararish::{Call, Index, IndexError, Report};
+use wararish::{line_in, next_line, table_in, Call, Index, IndexError, LineError, LineIndex, Report};
 
 /// Scans from the last chunk to the first, with the guesses of a number's bits; then settle and level.
 fn calls(chunks: usize, guesses: u64) -> Vec<Call> {
@@ -45,4 +47,61 @@ fn every_report_by_every_guess_and_in_the_plain_order() {
         literals += check(&said, report.index(said.levels, said.cuts));
     }
     assert!(literals > 600, "the table has lost reports: {literals} literals");
+}
+
+/// What a line's call tells: of a fault alone the line's number too.
+fn line_told(indexed: &Result<LineIndex, LineError>) -> Indexed {
+    match indexed {
+        Ok(_) => Indexed { number: 0, place: 0, line: 0 },
+        Err(error) => {
+            let line = if error.is_fault() { error.line } else { 0 };
+            Indexed { number: error.number(), place: error.place(), line }
+        }
+    }
+}
+
+/// Checks one line: what it tells, its own words, and that all others are as they were. Two literals.
+fn check_line(said: &LineReport, table: &[usize], call: &LineCall, words: &mut [u64]) -> usize {
+    let (name, line) = (said.name, call.line);
+    let left = [call.front, &words[call.front.len()..]].concat();
+    let indexed = line_in(&said.text, table, line, call.levels, &mut words[..call.words]);
+    assert_eq!(line_told(&indexed), call.told, "report {name}: line {line}");
+    if let Ok(index) = indexed {
+        assert_eq!((index.line(), index.words()), (line, call.front), "report {name}: line {line}");
+    }
+    assert_eq!(words, left, "report {name}: what line {line} leaves");
+    2
+}
+
+/// Checks a text's table and its lines, over the words that the lines before left, and tells how many literals there
+/// were.
+fn check_lines(said: &LineReport, words: &mut [u64]) -> usize {
+    let mut table = said.lent.clone();
+    let mut literals = 0;
+    if let Some((answer, numbers)) = said.made {
+        let told = table_in(&said.text, &mut table).map_or_else(|error| (error.number(), 0), |count| (0, count));
+        assert_eq!((told, &table[..]), (answer, numbers), "report {}: the table", said.name);
+        literals += 2;
+    }
+    literals + said.calls.iter().map(|call| check_line(said, &table, call, words)).sum::<usize>()
+}
+
+/// All lines of all texts, in the front of one buffer.
+#[test]
+fn every_table_and_every_line() {
+    let room = line_reports::all().flat_map(|said| said.calls).map(|call| call.words).max().unwrap();
+    let mut words: Vec<u64> = (0..room as u64 + 3).map(|word| !word).collect();
+    let literals: usize = line_reports::all().map(|said| check_lines(&said, &mut words)).sum();
+    assert!(literals >= 430, "the tables have lost reports: {literals} literals");
+}
+
+#[test]
+fn every_next_line() {
+    let mut literals = 0;
+    for &(text, from, said) in line_reports::all_next() {
+        let told = next_line(text, from).map(|line| (line.start, line.end));
+        assert_eq!(told, said, "from {from} of \"{}\"", text.escape_ascii());
+        literals += 1;
+    }
+    assert!(literals >= 34, "the table has lost next lines: {literals} literals");
 }
