@@ -10,9 +10,12 @@ use bytewise::lines::Indexed;
 use bytewise::random::Random;
 use bytewise::records::{self, Text};
 use bytewise::{byline, lines, path, rules, spelt};
+use told::line_told;
 use wararish::plan::{self, Guesses, Order};
 use wararish::{line_in, next_line, table_in, words_needed};
-use wararish::{Call, Index, LineError, LineIndex, Lines, LinesError, Report, LIMIT};
+use wararish::{Call, Index, LineIndex, Lines, LinesError, Report, LIMIT};
+
+mod told;
 
 const CASES: usize = 100_000;
 const TEXTS_OF_LINES: usize = 40_000;
@@ -303,17 +306,6 @@ fn ask_line(random: &mut Random, index: &LineIndex, paths: &[Vec<u8>], seen: &mu
         };
         assert_eq!(told, found, "{} of {}", path.escape_ascii(), index.record().escape_ascii());
         assert_eq!(index.ask(&path).ok(), (found.number == 0).then(|| &index.record()[found.start..found.end]));
-    }
-}
-
-/// What a line's call tells: of a fault alone the line's number too.
-fn line_told(indexed: &Result<LineIndex, LineError>) -> Indexed {
-    match indexed {
-        Ok(_) => Indexed { number: 0, place: 0, line: 0 },
-        Err(error) => {
-            let line = if error.is_fault() { error.line } else { 0 };
-            Indexed { number: error.number(), place: error.place(), line }
-        }
     }
 }
 

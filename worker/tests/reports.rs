@@ -1,10 +1,12 @@
 //! The reports of the documents through the safe face, with the documents' own numbers as bytewise has copied them.
 
 use bytewise::line_reports::{self, LineCall, LineReport};
-use bytewise::lines::Indexed;
 use bytewise::path::{self, Found};
 use bytewise::reports::{self, Report as Said};
-use wararish::{line_in, next_line, table_in, Call, Index, IndexError, LineError, LineIndex, Report};
+use told::line_told;
+use wararish::{line_in, next_line, table_in, Call, Index, IndexError, Report};
+
+mod told;
 
 /// Scans from the last chunk to the first, with the guesses of a number's bits; then settle and level.
 fn calls(chunks: usize, guesses: u64) -> Vec<Call> {
@@ -47,17 +49,6 @@ fn every_report_by_every_guess_and_in_the_plain_order() {
         literals += check(&said, report.index(said.levels, said.cuts));
     }
     assert!(literals > 600, "the table has lost reports: {literals} literals");
-}
-
-/// What a line's call tells: of a fault alone the line's number too.
-fn line_told(indexed: &Result<LineIndex, LineError>) -> Indexed {
-    match indexed {
-        Ok(_) => Indexed { number: 0, place: 0, line: 0 },
-        Err(error) => {
-            let line = if error.is_fault() { error.line } else { 0 };
-            Indexed { number: error.number(), place: error.place(), line }
-        }
-    }
 }
 
 /// Checks one line: what it tells, its own words, and that all others are as they were. Two literals.

@@ -58,9 +58,7 @@ module _ (text : List ℕ) where
   -- the cases of the lines from a on
   step : (a : ℕ) → a < length text → linesFrom text a ≡ unlessBlank (isBlankLine text a (lineEnd text a)) (here a) (linesFrom text (lineEnd text a + 1))
   unfolding linesFrom linesIn
-  step a l =
-      let b = end-bounds a (omega arith) in
-      enough (length text) (suc (length text)) a (omega arith) (omega arith) ∙ rw (lt-ltb a (length text) l)
+  step a l = enough (length text) (suc (length text)) a (omega arith) (omega arith) ∙ rw (lt-ltb a (length text) l)
 
   pub none-behind : (a : ℕ) → length text ≤ a → linesFrom text a ≡ []
   unfolding linesFrom linesIn
