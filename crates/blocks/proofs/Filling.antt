@@ -6,9 +6,9 @@ use native.Mathlib.Omega.{arith}
 use native.Mathlib.Decide.{ℕ-discrete}
 use lib.ListN.{length, getD, set}
 use lib.Seq.{getD-set-same, getD-set-other}
+use Rattle.blocks.specs.Coding.{Filled}
 
-pub fill-next : (f : ℕ → ℕ) (b : ℕ) (t : List ℕ) {v : ℕ} → ((k : ℕ) → k < b → getD t k 0 ≡ f k) → b < length t → v ≡ f b
-    → (k : ℕ) → k < b + 1 → getD (set t b v) k 0 ≡ f k
+pub fill-next : (f : ℕ → ℕ) (b : ℕ) (t : List ℕ) {v : ℕ} → Filled f b t → b < length t → v ≡ f b → Filled f (b + 1) (set t b v)
 fill-next f b t {v} h l e k m = go (ℕ-discrete k b)
   where
     go : Dec (k ≡ b) → getD (set t b v) k 0 ≡ f k

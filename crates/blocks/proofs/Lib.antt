@@ -1,5 +1,6 @@
 -- Laws of words, for this crate and those above.
 pub mod Filling
+pub mod ClassLaws
 pub mod Lanes
 pub mod Parities
 pub mod EscapeLaw

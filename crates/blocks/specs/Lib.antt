@@ -1,3 +1,4 @@
+pub mod Coding
 pub mod Block
 pub mod Escape
 pub mod Swinging

@@ -1,10 +1,9 @@
 // A word of the record: its quotes, its mask under a guess, and its brackets outside strings.
 ghost use mathlib.Core.Path.{_≡_};
-ghost use mathlib.Core.Bool.{Bool};
 ghost use Prim.Native.Nat.{_*_, _≤_};
 ghost use lib.ListN.{length};
 ghost use Rattle.rules.specs.Bits.{escaped};
-ghost use Rattle.blocks.specs.Block.{lanesFor, TableOf};
+ghost use Rattle.blocks.specs.Coding.{TableOf};
 ghost use Rattle.blocks.specs.Marking.{MarkedWord};
 use crate::block::block;
 use crate::marks::escapes;
@@ -22,23 +21,23 @@ pub struct Marked {
 }
 
 // `carry` says whether the first byte of word w is escaped, `inside` whether it is taken to be inside a string.
-pub fn mark_word(t: &[u64; 256], text: &[u8], w: usize, carry: bool, inside: bool) -> Marked
-    requires { ⌜ TableOf (lanesFor Bool.false) (now t) ⌝ }
+pub fn mark_word(t: &[u32; 256], text: &[u8], w: usize, carry: bool, inside: bool) -> Marked
+    requires { ⌜ TableOf (now t) ⌝ }
     requires { ⌜ (64 * w ≤ length (now text)) × (carry ≡ escaped (now text) (64 * w)) ⌝ }
     ensures { λ r. ⌜ MarkedWord (now (text .entry)) w inside r ⌝ }
 {
     let at = 64 * w;
     let b = block(t, text, at);
-    let e = escapes(b.b, carry);
+    let e = escapes(b.backslashes, carry);
     let escaped = e.word;
-    let quotes = b.a & !escaped;
+    let quotes = b.quotes & !escaped;
     let m = mask_word(quotes, inside, live(text.len() - at));
     let mask = m.word;
     Marked {
         quotes: quotes,
         mask: mask,
-        opens: b.c & !mask,
-        closes: b.d & !mask,
+        opens: b.opens & !mask,
+        closes: b.closes & !mask,
         carry: e.carry,
         inside: m.inside,
     }

@@ -4,7 +4,7 @@ ghost use lib.ListN.{length};
 ghost use Rattle.chunks.specs.Writing.{Lent};
 ghost use Rattle.chunks.specs.Flipping.{flipWords, swingIn};
 use blocks::block::block;
-use blocks::block::table;
+use blocks::classes::table;
 use blocks::marks::live;
 use blocks::swing::Swing;
 use blocks::swing::brackets;
@@ -19,7 +19,7 @@ pub fn flip_words(text: &[u8], words: &mut [u64], levels: usize, from: usize, to
     ensures { λ r. ⌜ r ≡ swingIn (now (text .entry)) (now (words .exit)) levels from to ⌝ }
     ensures { λ _. ⌜ now (words .exit) ≡ flipWords (length (now (text .entry))) levels from to (now (words .entry)) ⌝ }
 {
-    let t = table(false);
+    let t = table();
     let n = text.len();
     let width = width_of(n);
     let mut swing = Swing {
@@ -34,7 +34,7 @@ pub fn flip_words(text: &[u8], words: &mut [u64], levels: usize, from: usize, to
         let b = block(&t, text, at);
         let mask = get_word(words, levels, width, Map::Mask, w) ^ live(n - at);
         put_word(words, levels, width, Map::Mask, w, mask);
-        swing = brackets(swing, b.c & !mask, b.d & !mask);
+        swing = brackets(swing, b.opens & !mask, b.closes & !mask);
         w += 1;
     }
     swing

@@ -6,7 +6,7 @@ ghost use Rattle.chunks.specs.Writing.{Lent};
 ghost use Rattle.chunks.specs.Levels.{levelWords};
 ghost use Rattle.chunks.specs.Storing.{StoredAt};
 use blocks::block::block;
-use blocks::block::table;
+use blocks::classes::table;
 use blocks::spread::spread_word;
 use layout::Map;
 use layout::get_word;
@@ -48,7 +48,7 @@ pub fn level_words(
     requires { ⌜ Lent (now text) (now words) levels to ⌝ }
     ensures { λ _. ⌜ now (words .exit) ≡ levelWords (now (text .entry)) levels from to start (now (words .entry)) ⌝ }
 {
-    let t = table(true);
+    let t = table();
     let width = width_of(text.len());
     let mut up = start as u64;
     let mut down: u64 = 0;
@@ -56,9 +56,17 @@ pub fn level_words(
     while w < to {
         let b = block(&t, text, 64 * w);
         let mask = get_word(words, levels, width, Map::Mask, w);
-        let s = spread_word(b.c & !mask, b.d & !mask, up, down);
+        let s = spread_word(b.opens & !mask, b.closes & !mask, up, down);
         let slots = s.slots;
-        store(words, levels, width, w, &slots, b.a & !mask, b.b & !mask);
+        store(
+            words,
+            levels,
+            width,
+            w,
+            &slots,
+            b.colons & !mask,
+            b.commas & !mask,
+        );
         up = s.up;
         down = s.down;
         w += 1;

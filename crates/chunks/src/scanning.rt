@@ -2,7 +2,7 @@
 ghost use mathlib.Core.Path.{_≡_};
 ghost use Rattle.chunks.specs.Writing.{Lent};
 ghost use Rattle.chunks.specs.Sweeping.{scanWords, sweptOf};
-use blocks::block::table;
+use blocks::classes::table;
 use blocks::marking::mark_word;
 use blocks::marking::run_odd;
 use blocks::swing::Swing;
@@ -43,7 +43,7 @@ pub fn scan_words(
             swing: swing,
         };
     }
-    let t = table(false);
+    let t = table();
     let width = width_of(text.len());
     let mut carry = run_odd(text, 64 * from);
     let mut w = from;

@@ -22,7 +22,7 @@ use crate::depth::depth_after;
 use crate::depth::falls;
 use crate::depth::kept_of;
 use blocks::block::block;
-use blocks::block::table;
+use blocks::classes::table;
 use blocks::marks::differs;
 use chunks::flipping::flip_words;
 use layout::Map;
@@ -99,7 +99,7 @@ pub fn seek_words(
     requires { ⌜ Lent (now text) (now words) levels to ⌝ }
     ensures { λ r. ⌜ r ≡ seekIn (now (text .entry)) (now (words .entry)) levels from to start ⌝ }
 {
-    let t = table(false);
+    let t = table();
     let width = width_of(text.len());
     let mut depth = start as u64;
     let mut w = from;
@@ -107,7 +107,7 @@ pub fn seek_words(
         let at = 64 * w;
         let b = block(&t, text, at);
         let mask = get_word(words, levels, width, Map::Mask, w);
-        let sought = seek_word(b.c & !mask, b.d & !mask, depth, at);
+        let sought = seek_word(b.opens & !mask, b.closes & !mask, depth, at);
         let Sought::On(d) = sought else {
             return sought;
         };

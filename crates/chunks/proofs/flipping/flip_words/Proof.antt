@@ -17,7 +17,7 @@ use Rattle.layout.specs.declared.Map.the-variants.{Mask}
 use Rattle.layout.specs.Maps.{InMap}
 use Rattle.blocks.specs.declared.block.Classes.{Classes}
 use Rattle.blocks.specs.declared.swing.Swing.{Swing}
-use Rattle.blocks.specs.Block.{lanesFor, BlockOf}
+use Rattle.blocks.specs.Block.{BlockOf}
 use Rattle.blocks.specs.Swinging.{swing as swing-of, Brackets, Small}
 use Rattle.chunks.specs.Writing.{over, rewritten, marksTill, Lent}
 use Rattle.chunks.specs.Sweeping.{swingBy}
@@ -59,10 +59,10 @@ module _ {text words₀ : List ℕ} {levels from to width : ℕ} {words : List �
     word-is = turned-word words₀ levels (length text) w (inv .wide) (as-lent ev) fits (omega (arith, here)) ea
 
     turn : {one : List ℕ} {swing′ : Swing} {classes : Classes} → one ≡ set words (address levels width mask w) (bitXor v alive)
-        → BlockOf (lanesFor false) (λ j. getD text (64 * w + j) 0) classes
-        → ((o c : ℕ → Bool) (i : ℕ) → Brackets o c i (bitAnd (classes .c) (2 ^ 64 - 1 - bitXor v alive)) (bitAnd (classes .d) (2 ^ 64 - 1 - bitXor v alive)) → swing ≡ swing-of o c i → swing′ ≡ swing-of o c (i + 64))
+        → BlockOf (λ c j. has c text (64 * w + j)) classes
+        → ((o c : ℕ → Bool) (i : ℕ) → Brackets o c i (bitAnd (classes .opens) (2 ^ 64 - 1 - bitXor v alive)) (bitAnd (classes .closes) (2 ^ 64 - 1 - bitXor v alive)) → swing ≡ swing-of o c i → swing′ ≡ swing-of o c (i + 64))
         → Inv text words₀ levels from to width one swing′ (w + 1)
-    unfolding swingBy marksTill flipWord lanesFor has wordAt
+    unfolding swingBy marksTill flipWord wordAt
     turn {one} {swing′} {classes} e₁ block brackets =
         let by = turned words₀ levels (length text) in
         record {
@@ -70,7 +70,7 @@ module _ {text words₀ : List ℕ} {levels from to width : ℕ} {words : List �
           high = omega arith;
           wide = inv .wide;
           swung =
-              brackets _ _ (64 * (w - from)) (brackets-of by text from w (inv .low) (plain-of text w by opens (block .c-is) word-is) (plain-of text w by closes (block .d-is) word-is)) (inv .swung)
+              brackets _ _ (64 * (w - from)) (brackets-of by text from w (inv .low) (plain-of text w by opens (block .opens-are) word-is) (plain-of text w by closes (block .closes-are) word-is)) (inv .swung)
               ∙ ap (swing-of _ _) (omega (arith, inv .low));
           written =
               subst (λ (v : ℕ). Cells levels width one (over (marksTill 0 v) from (flipWord words₀ levels (length text)) (cell words₀ levels width))) (sym (add-one w))
@@ -170,7 +170,7 @@ loop-less c = search needs
 loop-again : tie.Need-loop-again Inv-loop μ-loop
 loop-again c = let at-loop = c .before .before .before .before .before .before .before .before .before .before .before .before .before in
     turn (at-loop .before .before .before .before .before .pre) (at-loop .loop .inv) (c .before .before .before .before .before .before .before .before .before .before .before .before .loop-test .taken) (c .before .before .before .before .before .before .before .before .get-word .ensures) (c .before .before .before .before .before .before .before .before .get-word .ok) (c .before .before .before .before .before .before .before .live .ensures) (c .before .before .before .before .before .put-word .ensures)
-    (c .before .before .before .before .before .before .before .before .before .before .block .ensures (lanesFor false) (c .before .before .before .before .before .before .before .before .before .before .before .before .before .before .before .table .ensures)) (c .brackets .ensures)
+    (c .before .before .before .before .before .before .before .before .before .before .block .ensures (c .before .before .before .before .before .before .before .before .before .before .before .before .before .before .before .table .ensures)) (c .brackets .ensures)
 
 same-length : tie.Need-same-length Inv-loop μ-loop
 same-length c = c .before .loop .inv .written .long ∙ sym (lent-long (c .before .before .before .before .before .before .pre) (c .before .loop .inv .wide))

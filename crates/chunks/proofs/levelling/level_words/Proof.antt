@@ -20,7 +20,7 @@ use Rattle.layout.specs.declared.Map.the-variants.{Mask}
 use Rattle.layout.specs.Maps.{InMap}
 use Rattle.blocks.specs.declared.block.Classes.{Classes}
 use Rattle.blocks.specs.declared.spread.Spread.{Spread}
-use Rattle.blocks.specs.Block.{lanesFor, BlockOf}
+use Rattle.blocks.specs.Block.{BlockOf}
 use Rattle.blocks.specs.Swinging.{Brackets}
 use Rattle.chunks.specs.Writing.{over, rewritten, levelsTill, Lent}
 use Rattle.chunks.specs.Flipping.{maskIn}
@@ -71,16 +71,16 @@ module _ {text words₀ : List ℕ} {levels from to width start : ℕ} {words : 
       (e ∙ inv .written .holds mask tt w (one .inside) ∙ over-above (levelsTill w) from (levelWord text words₀ levels from start) (cell words₀ levels width) mask w (omega arith)) fits
 
   module _ {v : ℕ} {classes : Classes} {s : Spread} (ev : v ≡ cell words levels width mask w) (fits : v < 2 ^ 64)
-      (block : BlockOf (lanesFor true) (λ j. getD text (64 * w + j) 0) classes)
-      (spread : (o c : ℕ → Bool) (i s₀ : ℕ) → Brackets o c i (bitAnd (classes .c) (2 ^ 64 - 1 - v)) (bitAnd (classes .d) (2 ^ 64 - 1 - v)) → up ≡ s₀ + count o i → down ≡ count c i → SpreadOf s₀ o c i s) where
+      (block : BlockOf (λ c j. has c text (64 * w + j)) classes)
+      (spread : (o c : ℕ → Bool) (i s₀ : ℕ) → Brackets o c i (bitAnd (classes .opens) (2 ^ 64 - 1 - v)) (bitAnd (classes .closes) (2 ^ 64 - 1 - v)) → up ≡ s₀ + count o i → down ≡ count c i → SpreadOf s₀ o c i s) where
     abbrev by : ℕ → Bool
     by = maskIn words₀ levels (length text)
 
     spread-is : SpreadOf start (opensFrom text words₀ levels from) (closesFrom text words₀ levels from) (64 * (w - from)) s
-    unfolding lanesFor has wordAt opensFrom closesFrom
+    unfolding wordAt opensFrom closesFrom
     spread-is =
         let m = as-lent ev fits in
-        spread _ _ (64 * (w - from)) start (brackets-of by text from w (inv .low) (plain-of text w by opens (block .c-is) m) (plain-of text w by closes (block .d-is) m)) (inv .ups) (inv .downs)
+        spread _ _ (64 * (w - from)) start (brackets-of by text from w (inv .low) (plain-of text w by opens (block .opens-are) m) (plain-of text w by closes (block .closes-are) m)) (inv .ups) (inv .downs)
 
     level-is : (c : Class) (k : ℕ) {x : ℕ} → k < levels → x ≡ word 64 (λ j. has c text (64 * w + j))
         → bitAnd (bitAnd x (2 ^ 64 - 1 - v)) (getD (s .slots) (k + 1) 0) ≡ wordAt (levelBy by start (64 * from) text c (suc k)) w
@@ -91,9 +91,9 @@ module _ {text words₀ : List ℕ} {levels from to width start : ℕ} {words : 
         ∙ word-ext 64 _ _ (λ j b.
         ap₂ (λ (x y : ℕ). plain by c text (64 * w + j) && deepAt start (opensFrom text words₀ levels from) (closesFrom text words₀ levels from) x y) (add-one k) (omega (arith, inv .low)))
 
-    turn : {two : List ℕ} → StoredAt levels width w (s .slots) (bitAnd (classes .a) (2 ^ 64 - 1 - v)) (bitAnd (classes .b) (2 ^ 64 - 1 - v)) words two
+    turn : {two : List ℕ} → StoredAt levels width w (s .slots) (bitAnd (classes .colons) (2 ^ 64 - 1 - v)) (bitAnd (classes .commas) (2 ^ 64 - 1 - v)) words two
         → Inv text words₀ levels from to width start two (s .up) (s .down) (w + 1)
-    unfolding lanesFor has levelWord
+    unfolding levelWord
     turn {two} stored =
         let same : 64 * (w - from) + 64 ≡ 64 * (w + 1 - from) = omega (arith, inv .low) in
         record {
@@ -104,7 +104,7 @@ module _ {text words₀ : List ℕ} {levels from to width start : ℕ} {words : 
           downs = spread-is .down-is ∙ ap (count (closesFrom text words₀ levels from)) same;
           written =
               subst (λ (x : ℕ). Cells levels width two (over (levelsTill x) from (levelWord text words₀ levels from start) (cell words₀ levels width))) (sym (add-one w))
-              (stored .stores from (levelWord text words₀ levels from start) (cell words₀ levels width) (inv .low) (record { colons-are = λ k h. level-is colon k h (block .a-is); commas-are = λ k h. level-is comma k h (block .b-is) }) (inv .written));
+              (stored .stores from (levelWord text words₀ levels from start) (cell words₀ levels width) (inv .low) (record { colons-are = λ k h. level-is colon k h (block .colons-are); commas-are = λ k h. level-is comma k h (block .commas-are) }) (inv .written));
         }
 
 -- at the end
@@ -170,7 +170,7 @@ loop-less c = search needs
 
 loop-again : tie.Need-loop-again Inv-loop μ-loop
 loop-again c = let at-loop = c .before .before .before .before .before .before .before .before .before .before .before .before .before .before .before .before in
-    turn (c .before .before .before .before .before .before .before .before .before .before .before .before .before .before .before .before .before .before .before .before .before .pre) (at-loop .loop .inv) (c .before .before .before .before .before .before .before .before .before .before .before .before .before .before .before .loop-test .taken) (c .before .before .before .before .before .before .before .before .before .before .before .get-word .ensures) (c .before .before .before .before .before .before .before .before .before .before .before .get-word .ok) (c .before .before .before .before .before .before .before .before .before .before .before .before .before .block .ensures (lanesFor true) (c .before .before .before .before .before .before .before .before .before .before .before .before .before .before .before .before .before .before .table .ensures)) (c .before .before .before .before .before .before .before .before .spread-word .ensures) (c .before .before .store .ensures)
+    turn (c .before .before .before .before .before .before .before .before .before .before .before .before .before .before .before .before .before .before .before .before .before .pre) (at-loop .loop .inv) (c .before .before .before .before .before .before .before .before .before .before .before .before .before .before .before .loop-test .taken) (c .before .before .before .before .before .before .before .before .before .before .before .get-word .ensures) (c .before .before .before .before .before .before .before .before .before .before .before .get-word .ok) (c .before .before .before .before .before .before .before .before .before .before .before .before .before .block .ensures (c .before .before .before .before .before .before .before .before .before .before .before .before .before .before .before .before .before .before .table .ensures)) (c .before .before .before .before .before .before .before .before .spread-word .ensures) (c .before .before .store .ensures)
 
 same-length : tie.Need-same-length Inv-loop μ-loop
 same-length c = c .before .loop .inv .written .long ∙ sym (lent-long (c .before .before .before .before .before .before .pre) (c .before .loop .inv .wide))

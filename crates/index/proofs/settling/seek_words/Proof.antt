@@ -17,7 +17,7 @@ use Rattle.index.specs.declared.Fault.{Fault}
 use Rattle.index.specs.declared.settling.Sought.{Sought}
 use Rattle.index.specs.declared.settling.Sought.the-variants.{On, At}
 use Rattle.blocks.specs.declared.block.Classes.{Classes}
-use Rattle.blocks.specs.Block.{lanesFor, BlockOf}
+use Rattle.blocks.specs.Block.{BlockOf}
 use Rattle.blocks.specs.Swinging.{Brackets}
 use Rattle.chunks.specs.Writing.{Lent}
 use Rattle.chunks.specs.Flipping.{maskIn}
@@ -52,14 +52,14 @@ module _ {text words : List ℕ} {levels from to width start depth w : ℕ} (len
   parts = omega arith
 
   module _ {v : ℕ} {classes : Classes} {found : Sought} (ev : v ≡ cell words levels width mask w) (fits : v < 2 ^ 64)
-      (block : BlockOf (lanesFor false) (λ j. getD text (64 * w + j) 0) classes)
-      (sought : (o c : ℕ → Bool) → Brackets o c (64 * w) (bitAnd (classes .c) (2 ^ 64 - 1 - v)) (bitAnd (classes .d) (2 ^ 64 - 1 - v)) → found ≡ seek o c depth (64 * w) 64) where
+      (block : BlockOf (λ c j. has c text (64 * w + j)) classes)
+      (sought : (o c : ℕ → Bool) → Brackets o c (64 * w) (bitAnd (classes .opens) (2 ^ 64 - 1 - v)) (bitAnd (classes .closes) (2 ^ 64 - 1 - v)) → found ≡ seek o c depth (64 * w) 64) where
     found-is : found ≡ seek o c depth (64 * w) 64
-    unfolding lanesFor has wordAt
+    unfolding wordAt
     found-is =
         let by = maskIn words levels (length text) in
         let m = mask-word-of words levels (length text) w (inv .wide) ev fits in
-        sought o c (record { apart = plain-apart by text; opens-are = plain-of text w by opens (block .c-is) m; closes-are = plain-of text w by closes (block .d-is) m })
+        sought o c (record { apart = plain-apart by text; opens-are = plain-of text w by opens (block .opens-are) m; closes-are = plain-of text w by closes (block .closes-are) m })
 
     stop : {f : Fault} → found ≡ At f → seekIn text words levels from to start ≡ At f
     stop e = inv .so-far ∙ ap (seek o c depth (64 * w)) parts ∙ seek-at o c depth (64 * w) 64 (64 * (to - (w + 1))) (sym found-is ∙ e)
@@ -113,7 +113,7 @@ returns : tie.Need-returns Inv-loop μ-loop
 returns c =
     let at-loop = c .before .before .before .before .before .before .before .before .before in
     let told = c .enum-told .given in
-    told .1 ∙ sym (stop (c .before .before .before .before .before .before .before .before .before .before .before .before .before .before .pre) (at-loop .loop .inv) (c .before .before .before .before .before .before .before .before .loop-test .taken) (c .before .before .before .before .before .get-word .ensures) (c .before .before .before .before .before .get-word .ok) (c .before .before .before .before .before .before .block .ensures (lanesFor false) (c .before .before .before .before .before .before .before .before .before .before .before .table .ensures)) (c .before .before .seek-word .ensures) (told .1))
+    told .1 ∙ sym (stop (c .before .before .before .before .before .before .before .before .before .before .before .before .before .before .pre) (at-loop .loop .inv) (c .before .before .before .before .before .before .before .before .loop-test .taken) (c .before .before .before .before .before .get-word .ensures) (c .before .before .before .before .before .get-word .ok) (c .before .before .before .before .before .before .block .ensures (c .before .before .before .before .before .before .before .before .before .before .before .table .ensures)) (c .before .before .seek-word .ensures) (told .1))
 
 add-w : tie.Need-add-w Inv-loop μ-loop
 add-w c = search needs
@@ -123,7 +123,7 @@ loop-less c = search needs
 
 loop-again : tie.Need-loop-again Inv-loop μ-loop
 loop-again c = let at-loop = c .before .before .before .before .before .before .before .before .before .before in
-    turn (c .before .before .before .before .before .before .before .before .before .before .before .before .before .before .before .pre) (at-loop .loop .inv) (c .before .before .before .before .before .before .before .before .before .loop-test .taken) (c .before .before .before .before .before .before .get-word .ensures) (c .before .before .before .before .before .before .get-word .ok) (c .before .before .before .before .before .before .before .block .ensures (lanesFor false) (c .before .before .before .before .before .before .before .before .before .before .before .before .table .ensures)) (c .before .before .before .seek-word .ensures) (c .before .sought .given .1)
+    turn (c .before .before .before .before .before .before .before .before .before .before .before .before .before .before .before .pre) (at-loop .loop .inv) (c .before .before .before .before .before .before .before .before .before .loop-test .taken) (c .before .before .before .before .before .before .get-word .ensures) (c .before .before .before .before .before .before .get-word .ok) (c .before .before .before .before .before .before .before .block .ensures (c .before .before .before .before .before .before .before .before .before .before .before .before .table .ensures)) (c .before .before .before .seek-word .ensures) (c .before .sought .given .1)
 
 returns-2 : tie.Need-returns-2 Inv-loop μ-loop
 unfolding seek
