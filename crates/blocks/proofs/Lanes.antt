@@ -88,24 +88,32 @@ sixteen bit k l = word 8 (λ j. bit (k j)) + 256 * word 8 (λ j. bit (l j))
 sixteen-small : (bit : Code → Bool) (k l : ℕ → Code) → sixteen bit k l < 65536
 sixteen-small bit k l = omega (arith, eight (λ j. bit (k j)), eight (λ j. bit (l j)))
 
+-- bits f and g of 16 codes k and l, and of 16 more
+abbrev Woven : (f g : Code → Bool) (k l k′ l′ : ℕ → Code) → ℕ → Type 0
+Woven f g k l k′ l′ x = x ≡ sixteen f k l + 65536 * sixteen g k l + 4294967296 * (sixteen f k′ l′ + 65536 * sixteen g k′ l′)
+
+woven-halves : (f g : Code → Bool) (k l k′ l′ : ℕ → Code) {x : ℕ} → Woven f g k l k′ l′ x
+    → (halves x ≡ sixteen f k l + 4294967296 * sixteen f k′ l′) × (halves (x / 65536) ≡ sixteen g k l + 4294967296 * sixteen g k′ l′)
+woven-halves f g k l k′ l′ e = halves-of (sixteen-small f k l) (sixteen-small g k l) (sixteen-small f k′ l′) (sixteen-small g k′ l′) e
+
 -- two eights far apart: their lanes a and c, and b and d
-module _ (k h : ℕ → Code) {x : ℕ} (e : x ≡ lanesOf k 8 + 4294967296 * lanesOf h 8) where
-  evens-ac : evens x ≡ word 8 (λ j. k j .a) + 65536 * word 8 (λ j. k j .c) + 4294967296 * (word 8 (λ j. h j .a) + 65536 * word 8 (λ j. h j .c))
+module _ (k k′ : ℕ → Code) {x : ℕ} (e : x ≡ lanesOf k 8 + 4294967296 * lanesOf k′ 8) where
+  evens-ac : evens x ≡ word 8 (λ j. k j .a) + 65536 * word 8 (λ j. k j .c) + 4294967296 * (word 8 (λ j. k′ j .a) + 65536 * word 8 (λ j. k′ j .c))
   unfolding lanesOf
   evens-ac = evens-of x _ (eight _) (eight _) (eight _) (eight _) (eight _) (eight _) (eight _) e
 
-  evens-bd : evens (x / 256) ≡ word 8 (λ j. k j .b) + 65536 * word 8 (λ j. k j .d) + 4294967296 * (word 8 (λ j. h j .b) + 65536 * word 8 (λ j. h j .d))
+  evens-bd : evens (x / 256) ≡ word 8 (λ j. k j .b) + 65536 * word 8 (λ j. k j .d) + 4294967296 * (word 8 (λ j. k′ j .b) + 65536 * word 8 (λ j. k′ j .d))
   unfolding lanesOf beside
   evens-bd =
-      evens-of (x / 256) 0 (eight (λ j. k j .b)) (eight (λ j. k j .c)) (eight (λ j. k j .d)) (eight (λ j. h j .a)) (eight (λ j. h j .b)) (eight (λ j. h j .c)) (eight (λ j. h j .d))
+      evens-of (x / 256) 0 (eight (λ j. k j .b)) (eight (λ j. k j .c)) (eight (λ j. k j .d)) (eight (λ j. k′ j .a)) (eight (λ j. k′ j .b)) (eight (λ j. k′ j .c)) (eight (λ j. k′ j .d))
       (omega (arith, e, eight (λ j. k j .a)))
 
-module _ (k h k′ h′ : ℕ → Code) {x y : ℕ} (ex : x ≡ lanesOf k 8 + 4294967296 * lanesOf h 8) (ey : y ≡ lanesOf k′ 8 + 4294967296 * lanesOf h′ 8) where
-  pub woven-ac : evens x + 256 * evens y ≡ sixteen (λ q. q .a) k k′ + 65536 * sixteen (λ q. q .c) k k′ + 4294967296 * (sixteen (λ q. q .a) h h′ + 65536 * sixteen (λ q. q .c) h h′)
-  woven-ac = omega (arith, evens-ac k h ex, evens-ac k′ h′ ey)
+module _ (k k′ l l′ : ℕ → Code) {x y : ℕ} (ex : x ≡ lanesOf k 8 + 4294967296 * lanesOf k′ 8) (ey : y ≡ lanesOf l 8 + 4294967296 * lanesOf l′ 8) where
+  pub woven-ac : Woven (λ q. q .a) (λ q. q .c) k l k′ l′ (evens x + 256 * evens y)
+  woven-ac = omega (arith, evens-ac k k′ ex, evens-ac l l′ ey)
 
-  pub woven-bd : evens (x / 256) + 256 * evens (y / 256) ≡ sixteen (λ q. q .b) k k′ + 65536 * sixteen (λ q. q .d) k k′ + 4294967296 * (sixteen (λ q. q .b) h h′ + 65536 * sixteen (λ q. q .d) h h′)
-  woven-bd = omega (arith, evens-bd k h ex, evens-bd k′ h′ ey)
+  pub woven-bd : Woven (λ q. q .b) (λ q. q .d) k l k′ l′ (evens (x / 256) + 256 * evens (y / 256))
+  woven-bd = omega (arith, evens-bd k k′ ex, evens-bd l l′ ey)
 
 -- a word is its eights
 cat-eight : (n from : ℕ) (p : ℕ → Bool) → word (8 + n) (λ j. p (from + j)) ≡ word 8 (λ j. p (from + j)) + 256 * word n (λ j. p (8 + from + j))
@@ -125,18 +133,11 @@ from k i j = k (i + j)
 pub codes-from : (t text : List ℕ) (at : ℕ) (k : ℕ → Code) → Codes t text at 64 k → (i at′ : ℕ) → i + 8 ≤ 64 → at′ ≡ at + i → Codes t text at′ 8 (from k i)
 codes-from t text at k e i at′ l same j m = ap (λ (x : ℕ). getD t (getD text x 0) 0) (omega arith) ∙ e (i + j) (omega arith)
 
--- the eights woven, two and two, of two bits f and g: the word of each
+-- the eights woven, two and two, of bits f and g: the word of each
 module _ (k : ℕ → Code) (f g : Code → Bool) {v w : ℕ}
-    (ev : v ≡ sixteen f (from k 0) (from k 8) + 65536 * sixteen g (from k 0) (from k 8) + 4294967296 * (sixteen f (from k 32) (from k 40) + 65536 * sixteen g (from k 32) (from k 40)))
-    (ew : w ≡ sixteen f (from k 16) (from k 24) + 65536 * sixteen g (from k 16) (from k 24) + 4294967296 * (sixteen f (from k 48) (from k 56) + 65536 * sixteen g (from k 48) (from k 56))) where
-  here : (halves v ≡ sixteen f (from k 0) (from k 8) + 4294967296 * sixteen f (from k 32) (from k 40)) × (halves (v / 65536) ≡ sixteen g (from k 0) (from k 8) + 4294967296 * sixteen g (from k 32) (from k 40))
-  here = halves-of (sixteen-small f _ _) (sixteen-small g _ _) (sixteen-small f _ _) (sixteen-small g _ _) ev
-
-  there : (halves w ≡ sixteen f (from k 16) (from k 24) + 4294967296 * sixteen f (from k 48) (from k 56)) × (halves (w / 65536) ≡ sixteen g (from k 16) (from k 24) + 4294967296 * sixteen g (from k 48) (from k 56))
-  there = halves-of (sixteen-small f _ _) (sixteen-small g _ _) (sixteen-small f _ _) (sixteen-small g _ _) ew
-
+    (ev : Woven f g (from k 0) (from k 8) (from k 32) (from k 40) v) (ew : Woven f g (from k 16) (from k 24) (from k 48) (from k 56) w) where
   pub word-low : halves v + 65536 * halves w ≡ word 64 (λ j. f (k j))
-  word-low = omega (arith, here .0, there .0, eights (λ j. f (k j)))
+  word-low = omega (arith, woven-halves f g (from k 0) (from k 8) (from k 32) (from k 40) ev .0, woven-halves f g (from k 16) (from k 24) (from k 48) (from k 56) ew .0, eights (λ j. f (k j)))
 
   pub word-high : halves (v / 65536) + 65536 * halves (w / 65536) ≡ word 64 (λ j. g (k j))
-  word-high = omega (arith, here .1, there .1, eights (λ j. g (k j)))
+  word-high = omega (arith, woven-halves f g (from k 0) (from k 8) (from k 32) (from k 40) ev .1, woven-halves f g (from k 16) (from k 24) (from k 48) (from k 56) ew .1, eights (λ j. g (k j)))

@@ -3,7 +3,6 @@ use borrow.Author.Needs.{needs}
 use mathlib.Core.Path.{_∙_}
 use Prim.Native.Nat.{_+_}
 use native.Mathlib.Omega.{arith}
-use Rattle.blocks.specs.Coding.{Code}
 use Rattle.blocks.proofs.Lanes.{from, codes-from, woven-ac, woven-bd, word-low, word-high}
 use Rattle.blocks.proofs.block.full_block.Statement.{statement}
 use Rattle.blocks.proofs.block.full_block.Tie as tie
