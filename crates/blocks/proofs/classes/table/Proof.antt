@@ -32,6 +32,7 @@ Inv-loop rows t₀ i₀ t i = T (tested rows) × (i ≤ 16) × (length t ≡ 256
 abbrev μ-loop : tie.MeasureT-loop
 μ-loop rows t₀ i₀ t i = 16 - i
 
+-- here the test of all 256 entries is computed
 loop-holds : tie.Need-loop-holds Inv-loop μ-loop
 unfolding is bit coded square beside entry codeOf tested
 loop-holds c = (tt, search needs, search needs, λ b l. absurd (omega arith))
