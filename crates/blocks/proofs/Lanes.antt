@@ -2,7 +2,7 @@
 use mathlib.Core.Path.{_≡_, sym, ap, ap₂, _∙_}
 use mathlib.Core.Bool.{Bool}
 use Prim.Native.Nat.{ℕ, suc, _+_, _*_, _/_, _%_, _^_, _≤_, _<_}
-use native.Mathlib.Nat.{add-mul, mul-assoc, lt-of-lt-of-le}
+use native.Mathlib.Nat.{add-mul, mul-assoc, lt-of-lt-of-le, zero-add, add-mul-div-left, div-eq-of-lt}
 use native.Mathlib.Omega.{arith}
 use native.Mathlib.Numerals.{add-one}
 use mathlib.Core.List.{List}
@@ -49,27 +49,21 @@ lanes-sum k m {sum} {e} h es ee =
 eight : (p : ℕ → Bool) → word 8 p < 256
 eight p = small 8 (omega arith) p
 
-first : (x y : ℕ) {a : ℕ} → a < 256 → x ≡ a + 256 * y → x % 256 ≡ a
-first x y l e = omega arith
-
-third : (x low y : ℕ) {c : ℕ} → low < 65536 → c < 256 → x ≡ low + 65536 * (c + 256 * y) → x / 65536 % 256 ≡ c
-third x low y m l e = omega arith
-
-fifth : (x low y : ℕ) {c : ℕ} → low < 4294967296 → c < 256 → x ≡ low + 4294967296 * (c + 256 * y) → x / 4294967296 % 256 ≡ c
-fifth x low y m l e = omega arith
-
-seventh : (x low y : ℕ) {c : ℕ} → low < 281474976710656 → c < 256 → x ≡ low + 281474976710656 * (c + 256 * y) → x / 281474976710656 % 256 ≡ c
-seventh x low y m l e = omega arith
+-- the byte of x above the lower ones, which come to less than n
+byte-at : (n x low y : ℕ) {c : ℕ} → low < n → c < 256 → x ≡ low + n * (c + 256 * y) → x / n % 256 ≡ c
+byte-at n x low y {c} m l e =
+    let above : x / n ≡ c + 256 * y = ap (λ (v : ℕ). v / n) e ∙ add-mul-div-left low (c + 256 * y) (omega arith) ∙ ap (λ (v : ℕ). v + (c + 256 * y)) (div-eq-of-lt m) ∙ zero-add (c + 256 * y) in
+    omega (arith, above)
 
 -- the eight bytes of a word, and those at even places
 evens-of : (x : ℕ) {a b c d p q r : ℕ} (s : ℕ) → a < 256 → b < 256 → c < 256 → d < 256 → p < 256 → q < 256 → r < 256
     → x ≡ beside a b c d + 4294967296 * beside p q r s → evens x ≡ a + 65536 * c + 4294967296 * (p + 65536 * r)
 unfolding evens beside
 evens-of x {a} {b} {c} {d} {p} {q} {r} s ha hb hc hd hp hq hr e =
-    let e0 = first x (b + 256 * (c + 256 * (d + 256 * (p + 256 * (q + 256 * (r + 256 * s)))))) ha (omega (arith, e)) in
-    let e2 = third x (a + 256 * b) (d + 256 * (p + 256 * (q + 256 * (r + 256 * s)))) (omega (arith, ha, hb)) hc (omega (arith, e)) in
-    let e4 = fifth x (a + 256 * (b + 256 * (c + 256 * d))) (q + 256 * (r + 256 * s)) (omega (arith, ha, hb, hc, hd)) hp (omega (arith, e)) in
-    let e6 = seventh x (a + 256 * (b + 256 * (c + 256 * (d + 256 * (p + 256 * q))))) s (omega (arith, ha, hb, hc, hd, hp, hq)) hr (omega (arith, e)) in
+    let e0 : x % 256 ≡ a = omega (arith, e) in
+    let e2 = byte-at 65536 x (a + 256 * b) (d + 256 * (p + 256 * (q + 256 * (r + 256 * s)))) (omega arith) hc (omega (arith, e)) in
+    let e4 = byte-at 4294967296 x (a + 256 * (b + 256 * (c + 256 * d))) (q + 256 * (r + 256 * s)) (omega arith) hp (omega (arith, e)) in
+    let e6 = byte-at 281474976710656 x (a + 256 * (b + 256 * (c + 256 * (d + 256 * (p + 256 * q))))) s (omega arith) hr (omega (arith, e)) in
     rw (e0, e2, e4, e6) (sum a c p r)
   where
     sum : (a c p r : ℕ) → a + 65536 * c + 4294967296 * p + 281474976710656 * r ≡ a + 65536 * c + 4294967296 * (p + 65536 * r)

@@ -44,6 +44,7 @@ const CLASSES: [[u32; 16]; 16] = [
     [o, o, o, o, o, o, o, o, o, o, o, o, o, o, o, o], // F
 ];
 
+// One row, behind the entries that are laid already.
 fn put_row(t: &mut [u32; 256], row: &[u32; 16], from: usize)
     requires { ⌜ (length (now t) ≡ 256) × (from + 16 ≤ 256) ⌝ }
     ensures { λ _. ⌜ length (now (t .exit)) ≡ 256 ⌝ }

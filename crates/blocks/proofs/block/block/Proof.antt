@@ -14,14 +14,14 @@ use Rattle.blocks.specs.declared.block.Classes.{Classes}
 use Rattle.blocks.proofs.block.block.Statement.{statement}
 use Rattle.blocks.proofs.block.block.Tie as tie
 
-abbrev code : List ℕ → List ℕ → ℕ → ℕ → Code
-code t text at j = codeOf (getD t (getD text (at + j) 0) 0)
+abbrev code-at : List ℕ → List ℕ → ℕ → ℕ → Code
+code-at t text at j = codeOf (getD t (getD text (at + j) 0) 0)
 
 module _ {t : List ℕ} (text : List ℕ) (at : ℕ) (small : (i : ℕ) → getD text i 0 < 256) (table : TableOf t) where
-  has-codes : Codes t text at 64 (code t text at)
+  has-codes : Codes t text at 64 (code-at t text at)
   has-codes j l = table .codes (getD text (at + j) 0) (small (at + j))
 
-  of-bytes : {r : Classes} → BlockOf (λ c j. coded c (code t text at j)) r → BlockOf (λ c j. has c text (at + j)) r
+  of-bytes : {r : Classes} → BlockOf (λ c j. coded c (code-at t text at j)) r → BlockOf (λ c j. has c text (at + j)) r
   unfolding has
   of-bytes {r} = subst (λ (p : Class → ℕ → Bool). BlockOf p r) (fun-ext (λ c. fun-ext (λ j. table .classes-are (getD text (at + j) 0) (small (at + j)) c)))
 

@@ -8,12 +8,13 @@ use native.Mathlib.Decide.{decLt}
 use native.Mathlib.Nat.{lt-of-not-le}
 use lib.ListN.{length, getD, replicate, length-set, length-replicate, getD-replicate, List·getD-eq-default}
 use lib.Seq.{getD-set-other}
+use Rattle.blocks.specs.Coding.{Filled}
 use Rattle.blocks.proofs.Filling.{fill-next}
 use Rattle.blocks.proofs.block.padded.Statement.{statement}
 use Rattle.blocks.proofs.block.padded.Tie as tie
 
 abbrev Inv-loop : tie.InvT-loop
-Inv-loop text at p₀ n j₀ p j = (j ≤ n) × (n ≡ length text - at) × (length p ≡ 64) × ((k : ℕ) → k < j → getD p k 0 ≡ getD text (at + k) 0) × ((k : ℕ) → j ≤ k → getD p k 0 ≡ 0)
+Inv-loop text at p₀ n j₀ p j = (j ≤ n) × (n ≡ length text - at) × (length p ≡ 64) × Filled (λ k. getD text (at + k) 0) j p × ((k : ℕ) → j ≤ k → getD p k 0 ≡ 0)
 
 abbrev μ-loop : tie.MeasureT-loop
 μ-loop text at p₀ n j₀ p j = n - j
