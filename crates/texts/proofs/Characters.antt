@@ -5,7 +5,7 @@ use Prim.Native.Nat.{ℕ, _%_}
 use native.Mathlib.Omega.{arith}
 use Rattle.texts.specs.Grammar.{In, Hexdig, joined, UTF8-char, Unescaped, Short, Char, Chars}
 use Rattle.texts.specs.Nodes.{characters}
-use Rattle.texts.specs.Texts.{Examples}
+use Rattle.texts.specs.Characters.{Examples}
 
 -- a character without an escape, and more
 module _ {bs us : List ℕ} (cs : Chars bs us) where

@@ -1,12 +1,17 @@
 -- Theorems about the texts of RFC 8259.
 pub mod Padded
 pub mod Tests
-pub mod Recogniser
-pub mod SoundNumbers
-pub mod SoundStrings
-pub mod SoundValues
-pub mod CompleteNumbers
-pub mod CompleteStrings
-pub mod CompleteValues
+pub mod MachineLaws
+pub mod CompleteTokens
+pub mod Completeness
+pub mod DepthLaws
+pub mod Languages
+pub mod ByteLaws
+pub mod NumberLaws
+pub mod Gathering
+pub mod Backwards
+pub mod Finishing
+pub mod Reaching
+pub mod Judging
 pub mod Trials
 pub mod Characters
