@@ -5,22 +5,30 @@ use std::process::Command;
 
 fn main() {
     let root = Path::new(env!("CARGO_MANIFEST_DIR")).parent().expect("worker/ has a folder above it");
-    for source in ["crates", "crates.txt"] {
-        println!("cargo:rerun-if-changed={}", root.join(source).display());
+    // what the archive is made of, without the folders that a check writes
+    println!("cargo:rerun-if-changed={}", root.join("crates.txt").display());
+    for folder in std::fs::read_dir(root.join("crates")).expect("crates/ lies beside worker/") {
+        let folder = folder.expect("crates/ can be read").path();
+        for part in ["src", "specs", "proofs"].map(|part| folder.join(part)) {
+            if part.exists() {
+                println!("cargo:rerun-if-changed={}", part.display());
+            }
+        }
     }
     let machine = std::env::var("CARGO_CFG_TARGET_ARCH").unwrap_or_default();
     if machine != "x86_64" {
         panic!("the archive of proved code links only into programs for x86-64, and this one is for {machine}");
     }
-    let proved = Command::new("rt").args(["staticlib", "face"]).current_dir(root).status();
+    let face = root.join("crates/face");
+    let proved = Command::new("rt").arg("lib").current_dir(&face).status();
     match proved {
         Ok(status) if status.success() => {}
-        Ok(status) => panic!("rt staticlib face: {status}"),
+        Ok(status) => panic!("rt lib in crates/face: {status}"),
         Err(why) => panic!("rt, the command of the Rattle kit, cannot be run: {why}"),
     }
-    // a copy, so that the archive outlives a gate's run, which removes the folder it was written to
+    // a copy, so that the archive outlives a later check, which may remove it
     let out = std::env::var("OUT_DIR").expect("cargo sets OUT_DIR");
-    std::fs::copy(root.join("target/staticlib/libface.a"), Path::new(&out).join("libface.a"))
+    std::fs::copy(face.join("out/libface.a"), Path::new(&out).join("libface.a"))
         .expect("rt wrote the archive");
     println!("cargo:rustc-link-search=native={out}");
     println!("cargo:rustc-link-lib=static=face");

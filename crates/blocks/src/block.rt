@@ -5,7 +5,7 @@ ghost use Rattle.blocks.specs.Coding.{Code, coded, TableOf};
 ghost use Rattle.blocks.specs.Block.{Codes, lanes_of, evens as evens_of, halves as halves_of, CodeBitsOf, BlockOf};
 
 // The words of the classes: bit j is byte j of the block.
-#[derive(Drop)]
+#[derive(Clone, Copy)]
 pub struct Classes {
     pub quotes: u64,
     pub backslashes: u64,
@@ -16,7 +16,7 @@ pub struct Classes {
 }
 
 // The words of the codes' four bits.
-#[derive(Drop)]
+#[derive(Clone, Copy)]
 struct CodeBits {
     a: u64,
     b: u64,

@@ -8,7 +8,7 @@ use crate::block::block;
 use crate::marks::{escapes, live, mask_word};
 
 // A word's quotes and mask, and its brackets outside strings; and the state of the byte behind it.
-#[derive(Drop)]
+#[derive(Clone, Copy)]
 pub struct Marked {
     pub quotes: u64,
     pub mask: u64,

@@ -17,7 +17,7 @@ pub fn parities(x: u64) -> u64
     v
 }
 
-#[derive(Drop)]
+#[derive(Clone, Copy)]
 pub struct Escaped {
     pub word: u64,
     pub carry: bool,
@@ -66,7 +66,7 @@ pub fn alike(b: bool) -> u64
     if b { 0xffff_ffff_ffff_ffff } else { 0 }
 }
 
-#[derive(Drop)]
+#[derive(Clone, Copy)]
 pub struct Masked {
     pub word: u64,
     pub inside: bool,

@@ -7,7 +7,7 @@ ghost use Rattle.blocks.specs.Spreading.{slot_of, SpreadOf};
 use crate::marks::live;
 
 // For each depth from 1 to 16 the places of a word that lie at it; and the brackets counted so far. Depths that no level has share slot 0.
-#[derive(Drop)]
+#[derive(Clone, Copy)]
 pub struct Spread {
     pub slots: [u64; 17],
     pub up: u64,

@@ -4,7 +4,7 @@ ghost use Rattle.blocks.specs.Swinging.{Small, past, swing, Brackets};
 
 // The openers and the closers passed, and how far at most the closers were ahead, and the openers. Two counts in place of a difference,
 // so that nothing falls below zero.
-#[derive(Drop)]
+#[derive(Clone, Copy)]
 pub struct Swing {
     pub up: u32,
     pub down: u32,

@@ -9,7 +9,7 @@ use blocks::swing::{Swing, brackets};
 use layout::{Map, put_word, width_of};
 
 // What a scan finds: the state behind the chunk, and how its brackets swing.
-#[derive(Drop)]
+#[derive(Clone, Copy)]
 pub struct Swept {
     pub inside: bool,
     pub swing: Swing,

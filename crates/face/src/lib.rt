@@ -1,4 +1,6 @@
 // What a program in C or Rust calls: numbers and slices of numbers alone. (include/wararish.h tells C.)
+#![tactic(auto)]
+
 ghost use Rattle.std.specs.Prelude.{◌+◌, length};
 ghost use Rattle.runs.specs.Whole.{plainly};
 ghost use Rattle.whole.specs.Calls.{calls_of};

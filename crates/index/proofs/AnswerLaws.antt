@@ -8,8 +8,6 @@ use native.Mathlib.Omega.{arith}
 use lib.Dec.{T, ltb, ltb→lt}
 use borrow.Author.Tests.{ltb-true, ltb-false}
 use lib.ListN.{length, get_or}
-use types.Run.{OneOf, miss}
-use denote.Enum.Declared.{tag_of}
 use Rattle.rules.specs.Word.{pick}
 use Rattle.rules.proofs.Booleans.{impossible}
 use Rattle.index.specs.declared.Fault.{Fault}
@@ -22,14 +20,13 @@ use Rattle.index.specs.declared.Job.{Job}
 use Rattle.index.specs.declared.Handed.{Handed}
 use Rattle.index.specs.Answers.{fault_number, refusal_number, number_of, Check, checked, on_done}
 use Rattle.index.specs.Numbers.{Refuses, condition, number, First, NoneHolds, Exactly}
-use Rattle.index.specs.contracts.Answer.{the_type}
 
 abbrev pub handed : Answer → Job → Handed
 handed a j = record { answer = a; job = j }
 
--- the way of `let Answer::Done = a else`: the tag is another's
-pub not_done : {A : Type 0} (a : Answer) (x y : A) → OneOf (1 ∷ 2 ∷ []) (tag_of the_type a) → on_done a x y ≡ y
-not_done Done x y h = absurd (miss (1 ∷ 2 ∷ []) 0 tt h)
+-- the way of `let Answer::Done = a else`: the answer is another
+pub not_done : {A : Type 0} (a : Answer) (x y : A) → (a ≡ Done → ⊥) → on_done a x y ≡ y
+not_done Done x y h = absurd (h refl)
 not_done (Refused r) x y h = refl
 not_done (Faulty f) x y h = refl
 

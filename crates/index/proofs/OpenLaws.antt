@@ -1,7 +1,7 @@
 -- Opening, test by test: which cut is bad, the first of them, and what a call is refused with.
 use mathlib.Core.Path.{◌≡◌, refl, sym, ap}
 use mathlib.Core.Bool.{Bool, true, false, not, ◌||◌, or-true}
-use mathlib.Core.List.{List, [], ◌∷◌}
+use mathlib.Core.List.{List}
 use Prim.Native.Nat.{ℕ, zero, suc, ◌+◌, ◌-◌, ◌%◌, ◌≤◌, ◌<◌}
 use native.Mathlib.Omega.{arith}
 use native.Mathlib.Decide.{ℕ_discrete}
@@ -9,15 +9,12 @@ use native.Mathlib.Numerals.{add-one}
 use lib.ListN.{length, get_or}
 use lib.Dec.{eqb, ltb}
 use borrow.Author.Tests.{eqb-true, eqb-false, ltb-false, not-false, eq-eqb, ne_eqb, le-leb, lt-leb, lt-ltb, le-ltb}
-use types.Run.{OneOf}
-use denote.Enum.Declared.{tag_of}
 use Rattle.rules.specs.Word.{pick}
 use Rattle.rules.specs.Layout.{size_of}
 use Rattle.index.specs.declared.Refusal.TheVariants.{Empty, TooLong, BadLevels, BadBuffer, ManyCuts, BadCut}
 use Rattle.index.specs.declared.Answer.{Answer}
 use Rattle.index.specs.declared.Answer.TheVariants.{Done, Refused}
 use Rattle.index.specs.Opening.{not_above, bad_cut, first, first_bad, open_checks, opening, no_job, open_job, opened}
-use Rattle.index.specs.contracts.Answer.{the_type}
 use Rattle.blocks.proofs.SwingLaws.{or_none}
 use Rattle.index.proofs.AnswerLaws.{handed, not_done}
 use Rattle.index.proofs.CheckLaws.{not_refused}
@@ -161,7 +158,7 @@ module _ (n w levels : ℕ) (cuts : List ℕ) where
         all_good = ltb-false _ _ c6.0;
       }
 
-  pub open_refused : (a : Answer) → a ≡ opening n w levels cuts → OneOf (1 ∷ 2 ∷ []) (tag_of the_type a) → handed a no_job ≡ opened n w levels cuts
+  pub open_refused : (a : Answer) → a ≡ opening n w levels cuts → (a ≡ Done → ⊥) → handed a no_job ≡ opened n w levels cuts
   unfolding opened
   open_refused a e h =
       let t = rw e at h in

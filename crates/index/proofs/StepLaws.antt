@@ -1,11 +1,9 @@
 -- What an accepted step may rely on, and what the two ways of every step come to: accepted, it does its work; refused, nothing.
 use mathlib.Core.Path.{◌≡◌, sym}
-use mathlib.Core.List.{List, [], ◌∷◌}
+use mathlib.Core.List.{List}
 use mathlib.Core.Bool.{Bool}
 use Prim.Native.Nat.{ℕ, ◌*◌, ◌-◌}
 use native.Mathlib.Omega.{arith}
-use types.Run.{OneOf}
-use denote.Enum.Declared.{tag_of}
 use lib.ListN.{length}
 use Rattle.index.specs.declared.Answer.{Answer}
 use Rattle.index.specs.declared.Answer.TheVariants.{Done}
@@ -17,7 +15,6 @@ use Rattle.index.specs.Stepping.{Fitting}
 use Rattle.blocks.specs.Swinging.{Small}
 use Rattle.chunks.specs.Writing.{Lent}
 use Rattle.chunks.specs.Sweeping.{swing_by}
-use Rattle.index.specs.contracts.Answer.{the_type}
 unfoldable pub use Rattle.index.proofs.AnswerLaws.{handed}
 use Rattle.index.proofs.AnswerLaws.{not_done}
 use Rattle.blocks.proofs.SwingLaws.{swing_small}
@@ -39,9 +36,9 @@ pub small_swing : (by : ℕ → Bool) (text words : List ℕ) (levels from to : 
 unfolding swing_by
 small_swing by text words levels from to l = swing_small _ _ (64 * (to - from)) 16777216 (omega (arith, l.within, width_few (length text) l.small))
 
--- the tags of the other answers
+-- any answer but Done
 abbrev pub Other : Answer → Type 0
-Other a = OneOf (1 ∷ 2 ∷ []) (tag_of the_type a)
+Other a = a ≡ Done → ⊥
 
 module _ {A : Type 0} {r : Answer} where
   -- r is what the checks answer, and a what the call got

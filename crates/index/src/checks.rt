@@ -7,7 +7,7 @@ use crate::{Answer, Asked, Chunk, Had, Job, Refusal, State, Step};
 use layout::{size_of, width_of};
 
 // Words of a bitmap, from `from` up to `to`.
-#[derive(Drop)]
+#[derive(Clone, Copy)]
 pub struct Span {
     pub from: usize,
     pub to: usize,

@@ -1,4 +1,6 @@
 // A structural index over a record in lent memory, made chunk by chunk. The face of the crate is `Job`, its operations, and what they answer.
+#![tactic(auto)]
+
 mod answers;
 mod checks;
 mod closing;
@@ -9,7 +11,7 @@ mod scanning;
 mod settling;
 
 // What is wrong with a record, with its place: 13, 14, 15 and 16.
-#[derive(Drop)]
+#[derive(Clone, Copy)]
 pub enum Fault {
     Closer(usize),
     Opener(usize),
@@ -18,7 +20,7 @@ pub enum Fault {
 }
 
 // Why a call was refused: 1 to 12, in this order.
-#[derive(Drop)]
+#[derive(Clone, Copy)]
 pub enum Refusal {
     Empty,
     TooLong,
@@ -34,21 +36,21 @@ pub enum Refusal {
     Early,
 }
 
-#[derive(Drop)]
+#[derive(Clone, Copy)]
 pub enum Answer {
     Done,
     Refused(Refusal),
     Faulty(Fault),
 }
 
-#[derive(Drop)]
+#[derive(Clone, Copy)]
 pub(crate) enum State {
     Open,
     Stopped(Fault),
     Closed,
 }
 
-#[derive(Drop)]
+#[derive(Clone, Copy)]
 pub(crate) enum Step {
     Scan,
     Settle,
@@ -56,7 +58,7 @@ pub(crate) enum Step {
 }
 
 // What a chunk keeps of its bytes: the parity of its quotes, the change of depth, and the lowest and the highest depth met, from 0 at its border.
-#[derive(Drop)]
+#[derive(Clone, Copy)]
 pub(crate) struct Kept {
     pub(crate) odd: bool,
     pub(crate) net: i32,
@@ -65,7 +67,7 @@ pub(crate) struct Kept {
 }
 
 // `inside` is the guess, and once settled the truth, about its first byte; `start` the depth there.
-#[derive(Drop)]
+#[derive(Clone, Copy)]
 pub(crate) struct Chunk {
     pub(crate) cut: usize,
     pub(crate) scanned: bool,
@@ -76,7 +78,7 @@ pub(crate) struct Chunk {
     pub(crate) kept: Kept,
 }
 
-#[derive(Drop)]
+#[derive(Clone, Copy)]
 pub struct Job {
     pub(crate) n: usize,
     pub(crate) levels: usize,
@@ -86,14 +88,14 @@ pub struct Job {
 }
 
 // What every call hands back.
-#[derive(Drop)]
+#[derive(Clone, Copy)]
 pub struct Handed {
     pub answer: Answer,
     pub job: Job,
 }
 
 // Which steps a chunk has had; NoChunk is 10.
-#[derive(Drop)]
+#[derive(Clone, Copy)]
 pub enum Had {
     NoChunk,
     Steps {
@@ -103,7 +105,7 @@ pub enum Had {
     },
 }
 
-#[derive(Drop)]
+#[derive(Clone, Copy)]
 pub struct Asked {
     pub chunks: usize,
     pub had: Had,

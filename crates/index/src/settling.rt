@@ -16,14 +16,14 @@ use chunks::flipping::flip_words;
 use layout::{Map, get_word, width_of};
 
 // The depth behind a walk, or the fault it met.
-#[derive(Drop)]
+#[derive(Clone, Copy)]
 pub enum Sought {
     On(u64),
     At(Fault),
 }
 
 // The fault of a chunk, if it has one.
-#[derive(Drop)]
+#[derive(Clone, Copy)]
 pub enum Found {
     Nothing,
     Here(Fault),

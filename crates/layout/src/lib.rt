@@ -1,10 +1,12 @@
 // The layout of the lent words, as code: how many there are, where a word of a bitmap lies, and all of them zero. No other crate computes an address.
+#![tactic(auto)]
+
 ghost use Rattle.std.specs.Prelude.{◌≡◌, ◌+◌, ◌*◌, ◌≤◌, length, set, replicate};
 ghost use Rattle.rules.specs.Layout.{width_of, size_of, address, cell};
 ghost use Rattle.layout.specs.Maps.{mapped, InMap};
 
 // A bitmap; colons and commas have their level.
-#[derive(Drop)]
+#[derive(Clone, Copy)]
 pub enum Map {
     Quotes,
     Mask,

@@ -9,7 +9,7 @@ use Rattle.rules.specs.Faults.{sound, fault_of}
 use Rattle.rules.specs.Layout.{index, Promise}
 use Rattle.rules.proofs.LayoutLaws.{index_holds}
 use Rattle.index.specs.declared.Answer.TheVariants.{Done}
-use Rattle.json.proofs.Paths.{value_some, claim}
+use Rattle.jsonpath.proofs.Paths.{value_some, claim}
 use Rattle.lines.specs.Jobs.{line_of, numbered, line_answer, line_words, line_number}
 use Rattle.lines.specs.declared.LineAnswer.TheVariants as line
 use Rattle.lines.proofs.VerdictLaws.{Judged, front_made}

@@ -102,7 +102,7 @@ held (e ∷ es) i before rest l =
         ap (λ (t : List ℕ). get_or t (2 * i + 1) 0) (sym (append_assoc before (e.start ∷ []) (e.end ∷ (entries es ++ rest))))
             ∙ get_or_at (before ++ e.start ∷ []) e.end (entries es ++ rest) 0 (2 * i + 1) (length-append before (e.start ∷ []) ∙ omega (arith, l)),
       ),
-      rw (← append_assoc before (e.start ∷ e.end ∷ []) (entries es ++ rest)) (held es (suc i) (before ++ e.start ∷ e.end ∷ []) rest (two ∙ omega (arith, l))),
+      subst (λ (t : List ℕ). Entered t (suc i) es) (append_assoc before (e.start ∷ e.end ∷ []) (entries es ++ rest)) (held es (suc i) (before ++ e.start ∷ e.end ∷ []) rest (two ∙ omega (arith, l))),
     )
 
 -- an entry by its number, and the number of one

@@ -3,8 +3,8 @@ use Rattle.std.specs.Prelude.{ℕ, ◌≤◌, ◌≡◌, List, length}
 use Rattle.texts.specs.Grammar.{In}
 use Rattle.paths.specs.Grammar.{Selector}
 use Rattle.query.specs.Answers.{answer_of}
-use Rattle.json.specs.Select.{select}
-use Rattle.json.specs.Demand2.{Obeys, root, Within, Selects}
+use Rattle.jsonpath.specs.Select.{select}
+use Rattle.jsonpath.specs.Demand2.{Obeys, root, Within, Selects}
 use Rattle.lines.specs.Jobs.{line_of, line_answer, line_words}
 use Rattle.lines.specs.declared.LineAnswer.TheVariants as line
 use Rattle.linewise.specs.Answers.{Room, front_of}

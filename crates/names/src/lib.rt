@@ -1,4 +1,6 @@
 // Names by their characters: an escape read, and a name of the record compared with a path's.
+#![tactic(auto)]
+
 ghost use Rattle.std.specs.Prelude.{◌≡◌, true, false, ◌&&◌, ◌||◌, ◌≢◌, ℕ, ◌+◌, ◌≤◌, ◌<◌, ltb, eqb, length, get_or};
 ghost use Rattle.rules.specs.Word.{pick};
 ghost use Rattle.paths.specs.Places.{byte_in, between};
@@ -8,14 +10,14 @@ ghost use Rattle.names.specs.declared.Spelt.TheVariants.{One, Wrong};
 
 // What stands at a place of a name: a character, written in so many bytes more than one; or an escape that RFC 8259 has not, or half
 // a pair of surrogates.
-#[derive(Drop)]
+#[derive(Clone, Copy)]
 pub enum Spelt {
     One { character: usize, more: usize },
     Wrong,
 }
 
 // A name of the record, for the name of a path.
-#[derive(Drop)]
+#[derive(Clone, Copy)]
 pub enum Match {
     Same,
     Different,

@@ -1,6 +1,6 @@
 -- A byte machine for paths, which the proofs read with: it reads exactly the paths of the grammar, and stops at the place of 20. Every mode can be
 -- completed to a path, and every move back keeps the grammar.
-use Prim.Native.Nat.{ℕ, zero, suc, ◌+◌, ◌-◌, ◌*◌}
+use Prim.Native.Nat.{ℕ, suc, ◌+◌, ◌-◌, ◌*◌}
 use mathlib.Core.Path.{◌≡◌, refl, ap, ◌∙◌}
 use mathlib.Core.Bool.{Bool, true, false, ◌||◌}
 use mathlib.Core.List.{List, [], ◌∷◌, ◌++◌, append-nil, append_assoc}

@@ -1,10 +1,12 @@
 // Reading a path, one step at a time.
+#![tactic(auto)]
+
 ghost use Rattle.std.specs.Prelude.{◌≡◌, ◌-◌, ◌≤◌, min, length};
 ghost use Rattle.paths.specs.Path.{is_head, is_digit, is_tail, run_end, decimal, name_at, bracketed, number_at, step_at};
 ghost use Rattle.paths.specs.Helpers.{told, limits_of, path_check};
 
 // What reading at a place of the path hands back.
-#[derive(Drop)]
+#[derive(Clone, Copy)]
 pub enum PathStep {
     // `.name`: its bytes are start to end, and what follows begins at next.
     Name {
@@ -25,7 +27,7 @@ pub enum PathStep {
     },
 }
 
-#[derive(Drop)]
+#[derive(Clone, Copy)]
 pub enum Checked {
     Fine,
     Bad { place: usize },
@@ -33,7 +35,7 @@ pub enum Checked {
     TooDeep,
 }
 
-#[derive(Drop)]
+#[derive(Clone, Copy)]
 struct Digits {
     end: usize,
     value: usize,

@@ -5,8 +5,6 @@ use mathlib.Core.Bool.{Bool, true, false}
 use mathlib.Core.List.{List, ◌∷◌, []}
 use lib.Dec.{ltb}
 use lib.ListN.{length}
-use types.Run.{OneOf, miss}
-use denote.Enum.Declared.{tag_of}
 use Rattle.rules.specs.Word.{pick}
 use Rattle.rules.specs.Layout.{width_of}
 use Rattle.paths.specs.Grammar.{Selector}
@@ -21,18 +19,18 @@ use Rattle.query.specs.declared.items.Item.{Item}
 use Rattle.query.specs.declared.types.Cause.TheVariants.{EmptyValue}
 use Rattle.query.specs.declared.types.Refusal.TheVariants.{BadPath, TooLarge, TooDeep, Broken}
 use Rattle.query.specs.declared.types.Answer.{Answer}
+use Rattle.query.specs.declared.items.Item.TheVariants as Items
 use Rattle.query.specs.declared.types.Answer.TheVariants.{Refused}
 use Rattle.paths.proofs.PlaceLaws.{pick_ind}
 use Rattle.paths.proofs.Checking.{fits_fine}
-use Rattle.query.specs.contracts.items.Item.{the_type}
 
 -- a value that is not found is empty
-pub value_empty : (byte : ℕ → ℕ) (a e : ℕ) → OneOf (1 ∷ 2 ∷ []) (tag_of the_type (value_at byte 0 a e))
+pub value_empty : (byte : ℕ → ℕ) (a e : ℕ) → ((p q : ℕ) → value_at byte 0 a e ≡ Items.Found p q → ⊥)
     → of_item (Broken EmptyValue 0 0) 0 (value_at byte 0 a e) ≡ Refused (Broken EmptyValue 0 0)
 unfolding value_at
 value_empty byte a e =
-    pick_ind (λ (it : Item). OneOf (1 ∷ 2 ∷ []) (tag_of the_type it) → of_item (Broken EmptyValue 0 0) 0 it ≡ Refused (Broken EmptyValue 0 0)) (ltb (trim_start byte a e) (trim_end byte a e)) _ _
-    (λ _ h. absurd (miss (1 ∷ 2 ∷ []) 0 tt h)) (λ _ h. refl)
+    pick_ind (λ (it : Item). ((p q : ℕ) → it ≡ Items.Found p q → ⊥) → of_item (Broken EmptyValue 0 0) 0 it ≡ Refused (Broken EmptyValue 0 0)) (ltb (trim_start byte a e) (trim_end byte a e)) _ _
+    (λ _ h. absurd (h _ _ refl)) (λ _ h. refl)
 
 -- what a check answers; a path that is fine is walked
 abbrev pub on_check : Checked → Answer → Answer

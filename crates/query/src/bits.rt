@@ -8,7 +8,7 @@ ghost use Rattle.query.specs.Helpers.{Readable, Long};
 use layout::{Map, get_word};
 
 // How many levels the lent words have, and how many words each bitmap.
-#[derive(Drop)]
+#[derive(Clone, Copy)]
 pub struct Shape {
     pub levels: usize,
     pub width: usize,

@@ -13,7 +13,7 @@ use layout::Map;
 use names::Match;
 
 // What an item is to a step.
-#[derive(Drop)]
+#[derive(Clone, Copy)]
 pub enum Item {
     // The value that was asked for, without end blanks: at least one byte.
     Found { start: usize, end: usize },

@@ -1,4 +1,6 @@
 // Paths in, a part of the lent record out: by the bits of the lent words, whatever they are.
+#![tactic(auto)]
+
 ghost use Rattle.query.specs.Outcomes.{AnswerGives, QueryGives};
 
 use layout::{size_of, width_of};

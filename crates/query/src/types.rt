@@ -3,7 +3,7 @@ ghost use Rattle.std.specs.Prelude.{◌≡◌};
 ghost use Rattle.query.specs.Answers.{miss_number, cause_number, refusal_number, refusal_place, refusal_step, number_of, place_of, step_of};
 
 // Why a step finds nothing in its value: 23 to 26.
-#[derive(Drop)]
+#[derive(Clone, Copy)]
 pub enum Miss {
     NotObject,
     NotArray,
@@ -12,7 +12,7 @@ pub enum Miss {
 }
 
 // What is wrong with a broken item, or with a record that is blank all through: 27 to 30.
-#[derive(Drop)]
+#[derive(Clone, Copy)]
 pub enum Cause {
     NoColon,
     BadName,
@@ -21,7 +21,7 @@ pub enum Cause {
 }
 
 // Why there is no part. A miss and a broken item tell the path step, from 1, and a place in the record.
-#[derive(Drop)]
+#[derive(Clone, Copy)]
 pub enum Refusal {
     EmptyRecord,
     LongRecord,
@@ -45,7 +45,7 @@ pub enum Refusal {
 }
 
 // Where the part lies in the record, end not included, or why there is none.
-#[derive(Drop)]
+#[derive(Clone, Copy)]
 pub enum Answer {
     Found { start: usize, end: usize },
     Refused(Refusal),

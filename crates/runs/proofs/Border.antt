@@ -11,7 +11,7 @@ use borrow.Author.Tests.{eq-eqb, ne_eqb, lt-ltb, le-ltb}
 use lib.ListN.{length}
 use lib.IntN.{pos, ◌+ℤ◌}
 use lib.Dec.{eqb, ltb}
-use Rattle.rules.specs.Word.{pick, xor, odd, count}
+use Rattle.rules.specs.Word.{pick, xor, count}
 use Rattle.rules.specs.Bytes.{opens, closes, has}
 use Rattle.rules.specs.Bits.{in_string, mask_bit, plain, opener, closer, at_depth}
 use Rattle.rules.specs.Faults.{sound, at_end, fault_from, fault_of}

@@ -15,7 +15,7 @@ use Rattle.index.specs.declared.Answer.TheVariants.{Done}
 use Rattle.index.specs.declared.Job.{Job}
 use Rattle.index.specs.Types.{Chunk, Span}
 use Rattle.index.specs.Checks.{fresh, chunk_at, span_of}
-use Rattle.index.specs.Opening.{not_above, bad_cut, first, first_bad, opening, blank, cut_up_to, open_job, opened}
+use Rattle.index.specs.Opening.{not_above, bad_cut, first_bad, opening, blank, cut_up_to, open_job, opened}
 use Rattle.index.proofs.OpenLaws.{Openable, openable}
 use Rattle.blocks.proofs.SwingLaws.{or_none}
 use Rattle.index.proofs.OpenLaws.{first_before}

@@ -2,12 +2,9 @@
 use Prim.Native.Nat.{ℕ}
 use mathlib.Core.Path.{◌≡◌, sym, ◌∙◌}
 use mathlib.Core.List.{List, [], ◌∷◌}
-use types.Run.{OneOf}
-use denote.Enum.Declared.{tag_of}
 use Rattle.index.specs.declared.Answer.{Answer}
 use Rattle.index.specs.declared.Answer.TheVariants.{Done}
 use Rattle.index.specs.Answers.{number_of, place_of}
-use Rattle.index.specs.contracts.Answer.{the_type}
 use Rattle.index.proofs.AnswerLaws.{not_done}
 use Rattle.query.specs.Answers.{answer_of}
 use Rattle.show.specs.declared.printing.Printed.{Printed}
@@ -20,7 +17,7 @@ module _ (text words cuts path : List ℕ) (l : Printed) where
   unfolding printed_in
   after_done e f g = rw (e, ← f) g
 
-  pub after_other : {a : Answer} → a ≡ job_answer text words cuts → OneOf (1 ∷ 2 ∷ []) (tag_of the_type a) → l ≡ placed (number_of a) (place_of a)
+  pub after_other : {a : Answer} → a ≡ job_answer text words cuts → (a ≡ Done → ⊥) → l ≡ placed (number_of a) (place_of a)
       → l ≡ printed_in text words cuts path
   unfolding printed_in
   after_other {a} e t h = rw (← e) (h ∙ sym (not_done a _ _ t))

@@ -1,18 +1,15 @@
 // Reads a path, LF and a record, and prints the number, start and end of the part that the path selects.
+#![tactic(auto)]
+
 mod printing;
 
-fn print(line: printing::Printed) {
-    io::print_decimal(1, line.number);
-    io::write_all(1, b" ");
-    io::print_decimal(1, line.start as u64);
-    io::write_all(1, b" ");
-    io::print_decimal(1, line.end as u64);
-    io::write_all(1, b"\n");
-}
+use reading::read_full;
+use std::io;
 
 // The buffer holds more than any input whose line depends on all its bytes: 1,025 + 16,385.
-fn main() {
-    let mut input = io::large_buffer();
-    let n = io::read_full(0, &mut input);
-    print(printing::shown(&input[..n]));
+fn main(rt: HostRuntime) -> io::Result<()> {
+    let mut input = [0u8; 65536];
+    let n = read_full(&mut rt.reader(), &mut input)?;
+    let line = printing::shown(&input[..n]);
+    println!(rt; "{} {} {}", line.number, line.start, line.end)
 }

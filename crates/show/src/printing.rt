@@ -8,7 +8,7 @@ use index::Answer;
 use layout::size_of;
 use query::types::Refusal;
 
-#[derive(Drop)]
+#[derive(Clone, Copy)]
 pub struct Printed {
     pub number: u64,
     pub start: usize,

@@ -1,7 +1,11 @@
 // Reading calls.
-ghost use Rattle.io.specs.Counts.{IsPrefixLen};
+ghost use Rattle.std.specs.Prelude.{◌≤◌, length, IfOk};
 
-#[derive(Drop)]
+use reading::read_full;
+use std::io;
+use std::io::Read;
+
+#[derive(Clone, Copy)]
 pub struct Head {
     pub letter: u8,
     pub flag: u8,
@@ -26,31 +30,31 @@ fn number_in(bytes: &[u8]) -> u64 {
 }
 
 // Letter 0 where the input ends.
-pub fn read_head() -> Head {
+pub fn read_head<R: Read>(input: &mut R) -> io::Result<Head> {
     let mut bytes = [0u8; 16];
-    io::read_full(0, &mut bytes);
-    Head {
+    read_full(input, &mut bytes)?;
+    Ok(Head {
         letter: bytes[0],
         flag: bytes[1],
         levels: number_in(&bytes[2..4]) as usize,
         length: number_in(&bytes[4..8]) as usize,
         value: number_in(&bytes[8..16]),
-    }
+    })
 }
 
 // Reads so many bytes, or none where they are too many.
-pub fn read_bytes(length: usize, into: &mut [u8]) -> usize
-    ensures { IsPrefixLen result into.new }
+pub fn read_bytes<R: Read>(input: &mut R, size: usize, into: &mut [u8]) -> io::Result<usize>
+    ensures { IfOk result (λ n. n ≤ length into.new) }
 {
-    if into.len() < length {
-        return 0;
+    if into.len() < size {
+        return Ok(0);
     }
-    io::read_full(0, &mut into[..length])
+    read_full(input, &mut into[..size])
 }
 
 // As many cuts as there are, and as there is room for.
 pub fn read_cuts(bytes: &[u8], cuts: &mut [usize]) -> usize
-    ensures { IsPrefixLen result cuts.new }
+    ensures { result ≤ length cuts.new }
 {
     let mut i = 0;
     let mut at = 0;

@@ -2,9 +2,11 @@
 ghost use Rattle.std.specs.Prelude.{◌≤◌};
 
 use crate::input::{Head, read_bytes, read_cuts};
+use std::io;
+use std::io::Read;
 
 // So many bytes, words and numbers of a table are lent.
-#[derive(Drop)]
+#[derive(Clone, Copy)]
 pub struct Lengths {
     pub n: usize,
     pub w: usize,
@@ -36,48 +38,49 @@ fn damage(at: usize, by: u64, words: &mut [u64]) {
     }
 }
 
-fn read_table(length: usize, table: &mut [usize]) -> usize {
-    let mut bytes = io::buffer();
-    let got = read_bytes(length, &mut bytes);
-    read_cuts(&bytes[..got], table)
+fn read_table<R: Read>(input: &mut R, length: usize, table: &mut [usize]) -> io::Result<usize> {
+    let mut bytes = [0u8; 4096];
+    let got = read_bytes(input, length, &mut bytes)?;
+    Ok(read_cuts(&bytes[..got], table))
 }
 
 // R: a record. W: words. G: a table. D: a word damaged. Any other call: as it was.
-pub fn prepare(
+pub fn prepare<R: Read>(
+    input: &mut R,
     lent: Lengths,
     head: Head,
     text: &mut [u8],
     words: &mut [u64],
     table: &mut [usize],
-) -> Lengths {
+) -> io::Result<Lengths> {
     if head.letter == b'R' {
-        let n = read_bytes(head.length, text);
-        return Lengths {
+        let n = read_bytes(input, head.length, text)?;
+        return Ok(Lengths {
             n: n,
             w: lent.w,
             t: lent.t,
-        };
+        });
     }
     if head.letter == b'W' {
         let w = fill(head.length, head.value, words);
-        return Lengths {
+        return Ok(Lengths {
             n: lent.n,
             w: w,
             t: lent.t,
-        };
+        });
     }
     if head.letter == b'G' {
-        let t = read_table(head.length, table);
-        return Lengths {
+        let t = read_table(input, head.length, table)?;
+        return Ok(Lengths {
             n: lent.n,
             w: lent.w,
             t: t,
-        };
+        });
     }
     if head.letter == b'D' {
         damage(head.length, head.value, words);
     }
-    lent
+    Ok(lent)
 }
 
 // A length, one less where the bit of the flag is set, and never more than there is.

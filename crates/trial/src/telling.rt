@@ -3,6 +3,8 @@
 // ` number@place+line`, of a next line ` 0@start+end`; at a case's end the digest of the words, and of a table its numbers, as
 // every call of it left them.
 use crate::input::wide;
+use std::io;
+use std::io::Write;
 
 fn mix(digest: u64, word: u64) -> u64 {
     let turned = ((digest << 23) | (digest >> 41)) ^ word;
@@ -39,33 +41,36 @@ fn digest_of_bytes(bytes: &[u8]) -> u64 {
     d
 }
 
-fn tell_more(mark: &[u8], value: usize) {
-    io::write_all(1, mark);
-    io::print_decimal(1, value as u64);
+fn tell_more<W: Write>(out: &mut W, mark: &[u8], value: usize) -> io::Result<()> {
+    out.write_all(mark)?;
+    write!(out, "{value}")
 }
 
-pub fn tell(number: u64, place: usize) {
-    io::write_all(1, b" ");
-    io::print_decimal(1, number);
-    tell_more(b"@", place);
+pub fn tell<W: Write>(out: &mut W, number: u64, place: usize) -> io::Result<()> {
+    write!(out, " {number}")?;
+    tell_more(out, b"@", place)
 }
 
-pub fn tell_two(number: u64, first: usize, second: usize) {
-    tell(number, first);
-    tell_more(b"+", second);
+pub fn tell_two<W: Write>(out: &mut W, number: u64, first: usize, second: usize) -> io::Result<()> {
+    tell(out, number, first)?;
+    tell_more(out, b"+", second)
 }
 
 // The low half of the digest is told.
-pub fn tell_part(number: u64, place: usize, step: usize, part: &[u8]) {
-    tell(number, place);
-    tell_more(b"/", step);
-    tell_more(b"+", part.len());
-    io::write_all(1, b":");
-    io::print_hex(1, digest_of_bytes(part) % 4294967296, 8);
+pub fn tell_part<W: Write>(
+    out: &mut W,
+    number: u64,
+    place: usize,
+    step: usize,
+    part: &[u8],
+) -> io::Result<()> {
+    tell(out, number, place)?;
+    tell_more(out, b"/", step)?;
+    tell_more(out, b"+", part.len())?;
+    let digest = digest_of_bytes(part) % 4294967296;
+    write!(out, ":{digest:08x}")
 }
 
-pub fn tell_end(digest: u64) {
-    io::write_all(1, b" ");
-    io::print_hex(1, digest, 16);
-    io::write_all(1, b"\n");
+pub fn tell_end<W: Write>(out: &mut W, digest: u64) -> io::Result<()> {
+    writeln!(out, " {digest:016x}")
 }

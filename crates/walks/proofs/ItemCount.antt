@@ -103,6 +103,7 @@ module _ (byte : ℕ → ℕ) (comma : ℕ → Bool) where
       where
         none : ByNumber byte comma m a e Other → count comma e < count comma a + m
         none (few c) = c
+        none (one {s = s} {f = f} _ v) = elim v [ ]
 
     -- the item with number m is only blanks
     pub empty_item : (why : Cause) (p : ℕ) → (item_no byte comma m a e ≡ Broken why p) ↔ ((f : ℕ) × Numbered comma a e m p f × OnlyBlanks byte p f × (why ≡ EmptyValue))

@@ -1,16 +1,13 @@
 -- What the code answers and leaves is the whole run's: a refused opening is its answer, and behind an accepted one the calls are the run.
 use Prim.Native.Nat.{ℕ}
 use mathlib.Core.Path.{◌≡◌, refl, sym, ap, ◌∙◌}
-use mathlib.Core.List.{List, [], ◌∷◌}
+use mathlib.Core.List.{List}
 use lib.ListN.{length}
-use types.Run.{OneOf}
-use denote.Enum.Declared.{tag_of}
 use Rattle.index.specs.declared.Answer.TheVariants.{Done}
 use Rattle.index.specs.declared.Job.{Job}
 use Rattle.index.specs.declared.Handed.{Handed}
 use Rattle.index.specs.Opening.{opening, opened}
 use Rattle.index.specs.Outcomes.{OpenGives, CloseGives}
-use Rattle.index.specs.contracts.Answer.{the_type}
 use Rattle.index.proofs.AnswerLaws.{not_done}
 use Rattle.runs.specs.Runs.{Call, answer, act, run, start}
 use Rattle.runs.specs.Whole.{held, whole_answer, whole_words}
@@ -20,7 +17,7 @@ module _ (text words : List ℕ) (levels : ℕ) (cuts : List ℕ) (calls : List 
   unfolding opened
   answer_is = ap (λ (h : Handed). h.answer) eo
 
-  pub refused_whole : OneOf (1 ∷ 2 ∷ []) (tag_of the_type o.answer)
+  pub refused_whole : (o.answer ≡ Done → ⊥)
       → (o.answer ≡ whole_answer text words levels cuts calls) × (words ≡ whole_words text words levels cuts calls)
   unfolding whole_answer whole_words
   refused_whole t = rw (← answer_is) (sym (not_done o.answer _ _ t), sym (not_done o.answer _ _ t))

@@ -1,4 +1,6 @@
 // A whole job by one call: opened, stepped by a list of calls or in the plain order, closed.
+#![tactic(auto)]
+
 ghost use Rattle.std.specs.Prelude.{◌≡◌, ◌+◌, length};
 ghost use Rattle.runs.specs.Runs.{act, run};
 ghost use Rattle.runs.specs.Whole.{held, whole_answer, whole_words, scans, finishes, plainly};

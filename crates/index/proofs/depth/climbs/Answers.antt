@@ -1,0 +1,18 @@
+-- `climbs` meets its contract: the sum fits 64 bits.
+use lib.IntN.{pos, ◌+ℤ◌}
+use mir.ValLaws.{to_z-of_z}
+use mir.Syntax.{w32}
+use Rattle.index.proofs.Signed.{wider, added, sum_fits, sum_read, above_is}
+use Rattle.index.proofs.depth.climbs.Goals as goal
+
+pub overflow_cast-result-2 : goal.overflow_cast-result-2
+overflow_cast-result-2 c = rw (to_z-of_z w32 c.args.high c.ranges.high) (wider c.args.high c.ranges.high)
+
+pub overflow_add-result : goal.overflow_add-result
+overflow_add-result c = let a = c.args in
+    rw (added a.start a.high c.ranges.start.fits c.ranges.high) (sum_fits a.start a.high c.ranges.start.fits c.ranges.high)
+
+pub returns : goal.returns
+returns c = let a = c.args in
+    rw (added a.start a.high c.ranges.start.fits c.ranges.high, sum_read a.start a.high c.ranges.start.fits c.ranges.high)
+    (above_is (pos a.start +ℤ a.high))

@@ -1,1 +1,0 @@
-// What RFC 9535 selects is what the walk finds: definitions in specs/, theorems in proofs/, no code.

@@ -1,0 +1,15 @@
+-- The loop keeps that the first LF from there on is the one from a on, since there is none among the 16 bytes that are passed.
+use Prim.Native.Nat.{◌+◌, ◌-◌, ◌≤◌}
+use mathlib.Core.Path.{◌≡◌, refl, sym, ◌∙◌}
+use native.Mathlib.Omega.{arith}
+use lib.ListN.{length}
+use borrow.Author.Tests.{ne_eqb}
+use Rattle.paths.proofs.PlaceLaws.{first_skip}
+use Rattle.lines.specs.Lines.{feed_at, line_end}
+use Rattle.lines.proofs.cutting.line_end.Given as goal
+
+abbrev pub invariant-loop-at : goal.invariant-loop-at
+invariant-loop-at l = (l.at ≤ length l.text) × (line_end l.text l.a ≡ line_end l.text l.at)
+
+abbrev pub decreases-loop-at : goal.decreases-loop-at
+decreases-loop-at l = length l.text - l.at

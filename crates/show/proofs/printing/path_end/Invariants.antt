@@ -1,0 +1,16 @@
+-- The loop keeps that the first LF from there on is the first of all.
+use Prim.Native.Nat.{◌-◌, ◌≤◌}
+use mathlib.Core.Path.{◌≡◌, refl, sym, ◌∙◌}
+use native.Mathlib.Omega.{arith}
+use lib.ListN.{length}
+use borrow.Author.Tests.{eq-eqb, ne_eqb}
+use Rattle.paths.specs.Places.{first_at}
+use Rattle.paths.proofs.PlaceLaws.{first_none, first_here, first_next}
+use Rattle.show.specs.Printing.{is_feed, path_end}
+use Rattle.show.proofs.printing.path_end.Given as goal
+
+abbrev pub invariant-loop-i : goal.invariant-loop-i
+invariant-loop-i l = (l.i ≤ length l.input) × (first_at (is_feed l.input) 0 (length l.input) ≡ first_at (is_feed l.input) l.i (length l.input))
+
+abbrev pub decreases-loop-i : goal.decreases-loop-i
+decreases-loop-i l = length l.input - l.i
