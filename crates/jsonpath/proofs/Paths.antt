@@ -1,6 +1,6 @@
 -- The path theorem: step after step the walk and RFC 9535 take the same node, from the whole text on. By the steps of the path.
 use mathlib.Core.Path.{◌≡◌, refl, ◌∙◌}
-use mathlib.Core.Bool.{true, false, not, ◌&&◌}
+use mathlib.Core.Bool.{not, ◌&&◌}
 use mathlib.Core.List.{List, [], ◌∷◌, ◌++◌, append-nil}
 use Prim.Native.Nat.{ℕ, suc, ◌+◌, ◌-◌, ◌≤◌, ◌<◌}
 use native.Mathlib.Nat.{add-zero, zero-add}

@@ -1,6 +1,6 @@
 -- A value that is derived, in its place in the record: no blank at its ends, and what the walk trims to it.
 use mathlib.Core.Path.{◌≡◌, refl, ◌∙◌}
-use mathlib.Core.Bool.{true, false}
+use mathlib.Core.Bool.{true}
 use mathlib.Core.List.{List, [], ◌∷◌, ◌++◌}
 use Prim.Native.Nat.{ℕ, zero, suc, ◌+◌, ◌≤◌, ◌<◌}
 use native.Mathlib.Nat.{add-suc, suc-add, not-suc-le-zero, le_of_suc-le-suc, le_refl}

@@ -1,6 +1,6 @@
 -- The reading of a name is exactly the derivations of `Spells`, and the comparison goes by them. One way by taking apart the tests that a character
 -- passed, the other by computing them for each derivation.
-use Prim.Native.Nat.{ℕ, zero, suc, ◌+◌, ◌-◌, ◌*◌, ◌<◌}
+use Prim.Native.Nat.{ℕ, zero, suc, ◌+◌, ◌*◌, ◌<◌}
 use mathlib.Core.Path.{◌≡◌, refl, sym, ap, ◌∙◌, subst}
 use mathlib.Core.Bool.{Bool, true, false, ◌&&◌, true≢false, false≢true, not-eq-not}
 use mathlib.Core.Logic.{◌≢◌, ◌↔◌}

@@ -1,7 +1,7 @@
 -- The line after the job, by its answer.
 use Prim.Native.Nat.{ℕ}
 use mathlib.Core.Path.{◌≡◌, sym, ◌∙◌}
-use mathlib.Core.List.{List, [], ◌∷◌}
+use mathlib.Core.List.{List}
 use Rattle.index.specs.declared.Answer.{Answer}
 use Rattle.index.specs.declared.Answer.TheVariants.{Done}
 use Rattle.index.specs.Answers.{number_of, place_of}

@@ -8,7 +8,7 @@ use native.Mathlib.Omega.{arith}
 use borrow.Author.Tests.{ne_eqb}
 use lib.Dec.{eqb}
 use Rattle.texts.specs.Grammar.{In, Opt, Digits, Digits1, Blank, E, Minus, Sign, Exp, Frac, Int, Number, Utf8Char, Unescaped, Char, Chars}
-use Rattle.texts.specs.Machine.{within, is_digit, is_e, is_plain, fits, tail, Bracket, Role, Mode, done, minus, nought, int, dot, frac, exponent, power, chars, must, string_end, to, begin, after, character, move, complete, read_on}
+use Rattle.texts.specs.Machine.{within, is_digit, is_e, is_plain, fits, tail, Bracket, Role, Mode, done, nought, int, dot, frac, exponent, power, chars, must, string_end, to, begin, after, character, move, complete, read_on}
 use Rattle.texts.proofs.Tests.{or_true}
 use Rattle.texts.proofs.MachineLaws.{in_within, above, digit_is, hexdig_fits, short_is, Blanks, Accepted, moves, step, fitting}
 

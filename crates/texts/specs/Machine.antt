@@ -1,6 +1,6 @@
 -- A machine that reads a text from the left, a move a byte, and stops at the first byte that no text could have there, or at an opener
 -- that stands too deep. Nothing of it needs to be believed: what its verdict means is said by the grammar (Prefixes), and proved.
-use Rattle.std.specs.Prelude.{ℕ, zero, suc, Bool, true, false, ◌&&◌, ◌||◌, List, [], ◌∷◌, eqb, leb, ltb, length}
+use Rattle.std.specs.Prelude.{ℕ, suc, Bool, true, false, ◌&&◌, ◌||◌, List, [], ◌∷◌, eqb, leb, ltb, length}
 use Rattle.rules.specs.Word.{pick}
 
 -- ---- bytes

@@ -1,7 +1,6 @@
 -- The answer of the whole run, told as its number and its place.
 use mathlib.Core.Path.{ap, ◌∙◌}
 use Rattle.index.specs.Answers.{number_of, place_of}
-use borrow.Author.Rules.{rules}
 use Rattle.face.proofs.wararish_index.Goals as goal
 
 pub returns : goal.returns

@@ -1,7 +1,6 @@
 -- The answer of the line's job, told as its number and its place.
 use mathlib.Core.Path.{ap, ◌∙◌}
 use Rattle.lines.specs.Jobs.{line_number, line_place}
-use borrow.Author.Rules.{rules}
 use Rattle.face.proofs.wararish_line.Goals as goal
 
 pub returns : goal.returns

@@ -5,7 +5,6 @@ use mathlib.Core.List.{List}
 use Rattle.lines.specs.Lines.{line_from}
 use Rattle.lines.specs.declared.Line.TheVariants.{At, End}
 use Rattle.face.specs.Outcomes.{NextTells}
-use borrow.Author.Rules.{rules}
 use Rattle.face.proofs.wararish_next_line.Goals as goal
 
 at : (text : List ℕ) (from s e : ℕ) → line_from text from ≡ At s e → NextTells text from 1 s e

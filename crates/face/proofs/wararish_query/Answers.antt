@@ -1,7 +1,6 @@
 -- What `query` told, with the length of its part.
 use mathlib.Core.Path.{ap}
 use lib.ListN.{length}
-use borrow.Author.Rules.{rules}
 use Rattle.face.proofs.wararish_query.Goals as goal
 
 pub returns : goal.returns

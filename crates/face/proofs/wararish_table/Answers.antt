@@ -1,7 +1,6 @@
 -- The answer of the cutting, told as its number and how many lines there are.
 use mathlib.Core.Path.{ap, ◌∙◌}
 use Rattle.lines.specs.Tables.{tabled_number, tabled_count}
-use borrow.Author.Rules.{rules}
 use Rattle.face.proofs.wararish_table.Goals as goal
 
 pub returns : goal.returns

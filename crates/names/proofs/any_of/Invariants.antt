@@ -1,13 +1,9 @@
 -- The loop keeps that, while the flag is down, no byte so far is the wanted one.
 use Prim.Native.Nat.{ℕ, ◌+◌, ◌-◌, ◌≤◌, ◌<◌}
-use mathlib.Core.Path.{◌≡◌, refl, sym, ◌∙◌}
-use mathlib.Core.Bool.{Bool, true, false, ◌||◌, true≢false}
-use mathlib.Core.Logic.{◌≢◌, ◌⊎◌, ⊎_elim}
-use native.Mathlib.Omega.{arith}
-use native.Mathlib.Nat.{eq-or-lt_of_le}
-use borrow.Author.Tests.{eqb-false}
+use mathlib.Core.Path.{◌≡◌}
+use mathlib.Core.Bool.{false}
+use mathlib.Core.Logic.{◌≢◌}
 use Rattle.paths.specs.Places.{byte_in}
-use borrow.Author.Rules.{rules}
 use Rattle.names.proofs.any_of.Given as goal
 
 abbrev pub invariant-loop-j : goal.invariant-loop-j

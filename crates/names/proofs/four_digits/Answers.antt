@@ -2,7 +2,6 @@
 use borrow.Author.Tests.{lt-ltb, le-ltb}
 use Rattle.paths.specs.Places.{byte_in}
 use Rattle.names.specs.Spelling.{four_of}
-use borrow.Author.Rules.{rules}
 use Rattle.names.proofs.four_digits.Goals as goal
 
 pub returns-then-x-ge16 : goal.returns-then-x-ge16

@@ -1,6 +1,5 @@
 -- The ranges of the match are those of the digits.
 use native.Mathlib.Omega.{arith}
-use borrow.Author.Rules.{rules}
 use Rattle.names.specs.Spelling.{hex_of}
 use Rattle.paths.proofs.PathLaws.{range_in, range_below, range_above}
 use Rattle.names.proofs.hex_of.Goals as goal

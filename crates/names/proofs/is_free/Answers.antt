@@ -1,5 +1,5 @@
 -- The loop keeps that there is no backslash before where it stands.
-use Prim.Native.Nat.{ℕ, ◌+◌, ◌-◌, ◌≤◌, ◌<◌}
+use Prim.Native.Nat.{◌+◌}
 use mathlib.Core.Path.{◌≡◌}
 use mathlib.Core.Bool.{false≢true}
 use mathlib.Core.Logic.{◌≢◌}

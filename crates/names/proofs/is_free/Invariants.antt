@@ -1,11 +1,7 @@
 -- The loop keeps that there is no backslash before where it stands.
-use Prim.Native.Nat.{ℕ, ◌+◌, ◌-◌, ◌≤◌, ◌<◌}
-use mathlib.Core.Path.{◌≡◌}
-use mathlib.Core.Bool.{false≢true}
+use Prim.Native.Nat.{ℕ, ◌-◌, ◌≤◌, ◌<◌}
 use mathlib.Core.Logic.{◌≢◌}
-use native.Mathlib.Omega.{arith}
 use Rattle.paths.specs.Places.{byte_in}
-use Rattle.paths.proofs.PlaceLaws.{side_by_side}
 use Rattle.names.proofs.is_free.Given as goal
 
 abbrev pub invariant-loop-i : goal.invariant-loop-i

@@ -1,6 +1,5 @@
 -- Test by test, as the contract.
 use native.Mathlib.Omega.{arith}
-use borrow.Author.Rules.{rules}
 use borrow.Author.Tests.{lt-ltb, le-ltb}
 use Rattle.paths.specs.Places.{byte_in}
 use Rattle.names.proofs.is_next.Goals as goal

@@ -1,10 +1,9 @@
 -- The loop keeps that there is no backslash before where it stands.
-use Prim.Native.Nat.{ℕ, ◌+◌, ◌-◌, ◌≤◌, ◌<◌}
+use Prim.Native.Nat.{◌+◌}
 use mathlib.Core.Logic.{◌≢◌}
 use native.Mathlib.Omega.{arith}
 use Rattle.paths.specs.Places.{byte_in}
 use Rattle.paths.proofs.PlaceLaws.{side_by_side}
-use borrow.Author.Rules.{rules}
 use Rattle.names.proofs.is_plain.Goals as goal
 
 pub loop-at-init : goal.loop-at-init

@@ -1,10 +1,7 @@
 -- The loop keeps that there is no backslash before where it stands.
-use Prim.Native.Nat.{ℕ, ◌+◌, ◌-◌, ◌≤◌, ◌<◌}
+use Prim.Native.Nat.{ℕ, ◌-◌, ◌≤◌, ◌<◌}
 use mathlib.Core.Logic.{◌≢◌}
-use native.Mathlib.Omega.{arith}
 use Rattle.paths.specs.Places.{byte_in}
-use Rattle.paths.proofs.PlaceLaws.{side_by_side}
-use borrow.Author.Rules.{rules}
 use Rattle.names.proofs.is_plain.Given as goal
 
 abbrev pub invariant-loop-at : goal.invariant-loop-at

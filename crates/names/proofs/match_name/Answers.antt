@@ -1,6 +1,4 @@
 -- Without a backslash a name's characters are its bytes.
-use borrow.Author.Rules.{rules}
-use borrow.Author.Tests.{not-false}
 use Rattle.paths.specs.Places.{byte_in}
 use Rattle.names.specs.Spelling.{matched}
 use Rattle.names.proofs.SpellingLaws.{plain_spelling, plain_between}

@@ -1,11 +1,7 @@
 -- The loop keeps that the comparison of what is left is the whole comparison.
-use Prim.Native.Nat.{◌-◌, ◌≤◌}
-use mathlib.Core.Path.{◌≡◌, refl, sym, ◌∙◌}
+use mathlib.Core.Path.{refl, sym, ◌∙◌}
 use native.Mathlib.Omega.{arith}
-use borrow.Author.Rules.{rules}
-use borrow.Author.Tests.{not-true, not-false}
-use Rattle.paths.specs.Places.{byte_in, between}
-use Rattle.names.specs.Spelling.{matched}
+use Rattle.paths.specs.Places.{byte_in}
 use Rattle.names.proofs.SpellingLaws.{few_more, match_none, match_short, match_wrong, match_next, match_other}
 use Rattle.names.proofs.match_spelt.Goals as goal
 

@@ -1,12 +1,9 @@
 -- The loop keeps that the rest from where it stands decides.
 use Prim.Native.Nat.{◌-◌, ◌≤◌}
-use mathlib.Core.Path.{◌≡◌, refl, sym, ap, ◌∙◌}
-use native.Mathlib.Omega.{arith}
-use borrow.Author.Rules.{rules}
+use mathlib.Core.Path.{◌≡◌}
 use Rattle.paths.specs.Places.{byte_in, between}
 use Rattle.names.specs.Spelling.{spelling}
 use Rattle.names.specs.Helpers.{another}
-use Rattle.names.proofs.SpellingLaws.{few_more, reads_none, reads_wrong, reads_on}
 use Rattle.names.proofs.read_on.Given as goal
 
 abbrev pub invariant-loop-i : goal.invariant-loop-i

@@ -1,10 +1,8 @@
 -- The loop keeps that the comparison of what is left is the whole comparison.
-use Prim.Native.Nat.{suc, ◌+◌, ◌-◌, ◌≤◌}
-use mathlib.Core.Path.{◌≡◌, sym, ◌∙◌}
-use native.Mathlib.Omega.{arith}
+use Prim.Native.Nat.{◌+◌, ◌-◌, ◌≤◌}
+use mathlib.Core.Path.{◌≡◌}
 use Rattle.paths.specs.Places.{byte_in, between}
 use Rattle.names.specs.Spelling.{same}
-use Rattle.names.proofs.Comparing.{same_short, same_none, same_next, same_stop}
 use Rattle.names.proofs.same_bytes.Given as goal
 
 abbrev pub invariant-loop-k : goal.invariant-loop-k

@@ -1,6 +1,5 @@
 -- The byte behind the backslash, if the name has one.
 use native.Mathlib.Omega.{arith}
-use borrow.Author.Rules.{rules}
 use borrow.Author.Tests.{lt-ltb}
 use Rattle.paths.specs.Places.{byte_in}
 use Rattle.names.specs.Spelling.{short_of}

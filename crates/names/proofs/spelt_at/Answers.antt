@@ -1,7 +1,6 @@
 -- Test by test, as the definition.
 use mathlib.Core.Path.{sym, ◌∙◌}
 use native.Mathlib.Omega.{arith}
-use borrow.Author.Rules.{rules}
 use Rattle.paths.specs.Places.{byte_in}
 use Rattle.names.proofs.SpellingLaws.{reads_plain, reads_wide, reads_short}
 use Rattle.names.proofs.spelt_at.Goals as goal

@@ -1,7 +1,6 @@
 -- Byte by byte, as the definition; behind the end of the name there is no digit.
 use mathlib.Core.Path.{sym, ◌∙◌}
 use native.Mathlib.Omega.{arith}
-use borrow.Author.Rules.{rules}
 use Rattle.paths.specs.Places.{byte_in}
 use Rattle.names.proofs.SpellingLaws.{unit_short, unit_first, unit_second, unit_digits}
 use Rattle.names.proofs.unit_at.Goals as goal

@@ -1,6 +1,5 @@
 -- The ranges of the surrogates, as the definition.
 use native.Mathlib.Omega.{arith}
-use borrow.Author.Rules.{rules}
 use Rattle.paths.proofs.PathLaws.{range_in, range_below, range_above}
 use Rattle.names.proofs.wide_of.Goals as goal
 

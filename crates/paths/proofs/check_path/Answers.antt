@@ -17,9 +17,9 @@ after c =
     let i = c.loop-next.invariant in
     let e = sym c.read_step-s.ensures in
     elim c.match-s.branch [
-      in-Name w ↦ rw (w.at-is, w.big-is) (checking_name i (e ∙ w.in-Name.is))
-    | in-Number+then-value-gt16777215 w ↦ rw (w.at-is, w.big-is) (checking_number i (e ∙ w.in-Number.is) (lt-ltb _ _ w.if-value-gt16777215.true))
-    | in-Number+else-value-gt16777215 w ↦ rw (w.at-is, w.big-is) (checking_number i (e ∙ w.in-Number.is) (le-ltb _ _ w.if-value-gt16777215.false))
+      | in-Name w ↦ rw (w.at-is, w.big-is) (checking_name i (e ∙ w.in-Name.is))
+      | in-Number+then-value-gt16777215 w ↦ rw (w.at-is, w.big-is) (checking_number i (e ∙ w.in-Number.is) (lt-ltb _ _ w.if-value-gt16777215.true))
+      | in-Number+else-value-gt16777215 w ↦ rw (w.at-is, w.big-is) (checking_number i (e ∙ w.in-Number.is) (le-ltb _ _ w.if-value-gt16777215.false))
     ]
 
 pub returns-then-path-gt1024 : goal.returns-then-path-gt1024

@@ -11,7 +11,6 @@ use Rattle.rules.specs.Layout.{width_of, size_of}
 use Rattle.paths.specs.Path.{read_path}
 use Rattle.query.specs.Answers.{answer_of}
 use Rattle.query.proofs.Answering.{on_check, walk_read, by_check, by_walk}
-use borrow.Author.Rules.{rules}
 use Rattle.query.proofs.answer.Goals as goal
 
 -- past 1 to 4 the answer is the check's
@@ -46,12 +45,15 @@ pub walk_record-requires : goal.walk_record-requires
 unfolding size_of width_of
 walk_record-requires c = let a = c.args in
     let wide = c.width_of-width.ensures in
-    record { shaped = record {
+    record {
+      shaped = record {
         levels = omega arith;
         width = omega (arith, wide);
         long = c.if-words-size_of.false ∙ c.size_of.ensures ∙ ap (λ (w : ℕ). (2 + 2 * a.levels) * w) (sym wide);
         inside = omega (arith, wide);
-      }; levels_value = sym c.check_path-checked.ensures ∙ c.in-Fine.is; }
+      };
+      levels_value = sym c.check_path-checked.ensures ∙ c.in-Fine.is;
+    }
 
 pub returns-in-Bad : goal.returns-in-Bad
 returns-in-Bad c = sym (passed c.args.text.now c.args.words.now c.args.path.now c.args.levels c.if-text-eq0.false c.if-text-gt16777216.false (omega arith) (omega arith) (c.if-words-size_of.false ∙ c.size_of.ensures) c.check_path-checked.ensures ∙ rw c.in-Bad.is)

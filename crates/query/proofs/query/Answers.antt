@@ -7,7 +7,6 @@ use Rattle.query.specs.declared.types.Answer.{Answer}
 use Rattle.query.specs.declared.types.Answer.TheVariants.{Found}
 use Rattle.query.specs.Answers.{number_of, place_of, step_of, start_of, part_of}
 use Rattle.query.proofs.Inside.{InRecord, answer_in}
-use borrow.Author.Rules.{rules}
 use Rattle.query.proofs.query.Goals as goal
 
 -- what is found lies in the record

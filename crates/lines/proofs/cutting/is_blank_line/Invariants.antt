@@ -1,12 +1,7 @@
 -- The loop keeps that what is left is blank exactly where all is.
 use Prim.Native.Nat.{◌-◌, ◌≤◌}
-use mathlib.Core.Path.{◌≡◌, refl, sym, ap, ◌∙◌}
-use mathlib.Core.Bool.{not}
-use native.Mathlib.Omega.{arith}
-use borrow.Author.Rules.{rules}
-use Rattle.paths.specs.Places.{byte_in}
+use mathlib.Core.Path.{◌≡◌}
 use Rattle.lines.specs.Lines.{is_blank_line}
-use Rattle.lines.proofs.LineLaws.{blank_none, blank_solid, blank_next}
 use Rattle.lines.proofs.cutting.is_blank_line.Given as goal
 
 abbrev pub invariant-loop-i : goal.invariant-loop-i

@@ -1,11 +1,8 @@
 -- The loop keeps that the first LF from there on is the one from a on, since there is none among the 16 bytes that are passed.
-use Prim.Native.Nat.{◌+◌, ◌-◌, ◌≤◌}
-use mathlib.Core.Path.{◌≡◌, refl, sym, ◌∙◌}
-use native.Mathlib.Omega.{arith}
+use Prim.Native.Nat.{◌-◌, ◌≤◌}
+use mathlib.Core.Path.{◌≡◌}
 use lib.ListN.{length}
-use borrow.Author.Tests.{ne_eqb}
-use Rattle.paths.proofs.PlaceLaws.{first_skip}
-use Rattle.lines.specs.Lines.{feed_at, line_end}
+use Rattle.lines.specs.Lines.{line_end}
 use Rattle.lines.proofs.cutting.line_end.Given as goal
 
 abbrev pub invariant-loop-at : goal.invariant-loop-at

@@ -1,8 +1,6 @@
 -- The loop keeps that the first LF from there on is the one from a on.
-use Prim.Native.Nat.{◌-◌, ◌≤◌}
-use mathlib.Core.Path.{◌≡◌, refl, sym, ◌∙◌}
+use mathlib.Core.Path.{refl, sym, ◌∙◌}
 use native.Mathlib.Omega.{arith}
-use lib.ListN.{length}
 use borrow.Author.Tests.{eq-eqb, ne_eqb}
 use Rattle.paths.specs.Places.{byte_in}
 use Rattle.paths.proofs.PlaceLaws.{first_none, first_here, first_next}

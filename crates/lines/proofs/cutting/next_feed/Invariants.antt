@@ -1,12 +1,8 @@
 -- The loop keeps that the first LF from there on is the one from a on.
 use Prim.Native.Nat.{◌-◌, ◌≤◌}
-use mathlib.Core.Path.{◌≡◌, refl, sym, ◌∙◌}
-use native.Mathlib.Omega.{arith}
+use mathlib.Core.Path.{◌≡◌}
 use lib.ListN.{length}
-use borrow.Author.Tests.{eq-eqb, ne_eqb}
-use Rattle.paths.specs.Places.{byte_in}
-use Rattle.paths.proofs.PlaceLaws.{first_none, first_here, first_next}
-use Rattle.lines.specs.Lines.{feed_at, line_end}
+use Rattle.lines.specs.Lines.{line_end}
 use Rattle.lines.proofs.cutting.next_feed.Given as goal
 
 abbrev pub invariant-loop-i : goal.invariant-loop-i

@@ -1,10 +1,6 @@
 -- The loop keeps that the next line from there on is the one from `from` on.
-use Prim.Native.Nat.{◌-◌}
-use mathlib.Core.Path.{◌≡◌, refl, sym, ◌∙◌}
+use mathlib.Core.Path.{refl, sym, ◌∙◌}
 use native.Mathlib.Omega.{arith}
-use lib.ListN.{length}
-use borrow.Author.Tests.{not-true, not-false}
-use Rattle.lines.specs.Lines.{line_from}
 use Rattle.lines.proofs.LineLaws.{end_bounds, next_none, next_passed, next_here}
 use Rattle.lines.proofs.cutting.next_line.Goals as goal
 

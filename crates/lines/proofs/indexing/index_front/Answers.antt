@@ -4,7 +4,6 @@ use native.Mathlib.Omega.{arith}
 use lib.Seq.{length-take-le}
 use borrow.Author.Tests.{eq-eqb, ne_eqb, lt-ltb}
 use Rattle.lines.proofs.VerdictLaws.{front_empty, front_long, front_levels, front_short, front_made}
-use borrow.Author.Rules.{rules}
 use Rattle.lines.proofs.indexing.index_front.Goals as goal
 
 pub returns-then-n-eq0 : goal.returns-then-n-eq0

@@ -6,7 +6,6 @@ use lib.ListN.{length}
 use Rattle.lines.specs.Jobs.{numbered}
 use Rattle.lines.proofs.VerdictLaws.{line_nowhere, line_somewhere}
 use Rattle.lines.proofs.WhereLaws.{at_inside}
-use borrow.Author.Rules.{rules}
 use Rattle.lines.proofs.indexing.index_line.Goals as goal
 
 -- the line lies in the text
@@ -32,14 +31,14 @@ slice_bounds-index_front-end c = omega (arith, within c)
 pub returns-in-Done : goal.returns-in-Done
 returns-in-Done c = let a = c.args in
     let r = line_somewhere a.text.now a.table.now a.words.now a.i a.levels c.in-At.start c.in-At.end (sym c.line_at-found.ensures ∙ c.in-At.is) (c.index_front-answer.ensures.value, c.index_front-answer.ensures.words_after) in
-    record { value = ap (numbered a.i) (sym c.in-Done.is) ∙ r.0; words_after = r.1; }
+    record { value = ap (numbered a.i) (sym c.in-Done.is) ∙ r.0; words_after = r.1 }
 
 pub returns-in-Refused : goal.returns-in-Refused
 returns-in-Refused c = let a = c.args in
     let r = line_somewhere a.text.now a.table.now a.words.now a.i a.levels c.in-At.start c.in-At.end (sym c.line_at-found.ensures ∙ c.in-At.is) (c.index_front-answer.ensures.value, c.index_front-answer.ensures.words_after) in
-    record { value = ap (numbered a.i) (sym c.in-Refused.is) ∙ r.0; words_after = r.1; }
+    record { value = ap (numbered a.i) (sym c.in-Refused.is) ∙ r.0; words_after = r.1 }
 
 pub returns-in-Faulty : goal.returns-in-Faulty
 returns-in-Faulty c = let a = c.args in
     let r = line_somewhere a.text.now a.table.now a.words.now a.i a.levels c.in-At.start c.in-At.end (sym c.line_at-found.ensures ∙ c.in-At.is) (c.index_front-answer.ensures.value, c.index_front-answer.ensures.words_after) in
-    record { value = ap (numbered a.i) (sym c.in-Faulty.is) ∙ r.0; words_after = r.1; }
+    record { value = ap (numbered a.i) (sym c.in-Faulty.is) ∙ r.0; words_after = r.1 }

@@ -1,7 +1,6 @@
 -- Test by test.
 use mathlib.Core.Path.{sym}
 use native.Mathlib.Omega.{arith}
-use borrow.Author.Rules.{rules}
 use Rattle.lines.proofs.WhereLaws.{at_behind, at_turned, at_past, at_part}
 use Rattle.lines.proofs.indexing.line_at.Goals as goal
 

@@ -1,10 +1,7 @@
 -- The loop keeps that all lines are those counted and those from there on.
-use Prim.Native.Nat.{◌+◌, ◌-◌, ◌≤◌}
-use mathlib.Core.Path.{◌≡◌, sym, ap, ◌∙◌}
+use mathlib.Core.Path.{sym, ap, ◌∙◌}
 use native.Mathlib.Omega.{arith}
 use lib.ListN.{length}
-use borrow.Author.Rules.{rules}
-use Rattle.lines.specs.Lines.{lines, lines_from}
 use Rattle.lines.proofs.LineLaws.{Listed, next_at, next_end, none_behind}
 use Rattle.lines.proofs.table.count_lines.Goals as goal
 

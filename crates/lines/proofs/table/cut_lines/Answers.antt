@@ -1,6 +1,5 @@
 -- Check by check; then the table is filled.
 use native.Mathlib.Omega.{arith}
-use borrow.Author.Rules.{rules}
 use Rattle.lines.proofs.TableLaws.{table_empty, table_long, table_many, table_made}
 use Rattle.lines.proofs.table.cut_lines.Goals as goal
 

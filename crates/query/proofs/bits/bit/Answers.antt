@@ -2,7 +2,6 @@
 use native.Mathlib.Omega.{arith}
 use Rattle.rules.specs.Word.{bit}
 use Rattle.rules.specs.Layout.{bit_in}
-use borrow.Author.Rules.{rules}
 use Rattle.query.proofs.bits.bit.Goals as goal
 
 pub overflow_shr-result : goal.overflow_shr-result

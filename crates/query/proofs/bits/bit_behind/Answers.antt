@@ -1,11 +1,10 @@
 -- The loop keeps that no bit is set from behind word w up to the word where it stands.
-use Prim.Native.Nat.{ℕ, ◌+◌, ◌-◌, ◌*◌, ◌≤◌, ◌<◌}
+use Prim.Native.Nat.{ℕ}
 use mathlib.Core.Path.{◌≡◌, sym}
 use mathlib.Core.Bool.{Bool, false}
 use native.Mathlib.Omega.{arith}
 use lib.Count.{trailing_le}
 use Rattle.rules.specs.Layout.{bit_in}
-use Rattle.layout.specs.Maps.{mapped}
 use Rattle.paths.proofs.PlaceLaws.{first_at_is, first_all, side_by_side}
 use Rattle.query.proofs.Standing.{standing_whole, standing_zero, standing_low}
 use Rattle.query.proofs.Lents.{readable_to}
@@ -26,7 +25,7 @@ overflow_mul-v c = let h = c.requires.readable in omega (arith, c.loop-v.invaria
 
 pub word-x-requires : goal.word-x-requires
 word-x-requires c = let p = c.requires in
-    record { long = p.long; readable = readable_to p.readable (omega arith); }
+    record { long = p.long; readable = readable_to p.readable (omega arith) }
 
 pub overflow_mul-p : goal.overflow_mul-p
 overflow_mul-p c = let h = c.requires.readable in omega (arith, h.inside, h.width)

@@ -1,14 +1,9 @@
 -- The loop keeps that no bit is set from behind word w up to the word where it stands.
 use Prim.Native.Nat.{ℕ, ◌+◌, ◌-◌, ◌*◌, ◌≤◌, ◌<◌}
-use mathlib.Core.Path.{◌≡◌, sym}
+use mathlib.Core.Path.{◌≡◌}
 use mathlib.Core.Bool.{Bool, false}
-use native.Mathlib.Omega.{arith}
-use lib.Count.{trailing_le}
 use Rattle.rules.specs.Layout.{bit_in}
 use Rattle.layout.specs.Maps.{mapped}
-use Rattle.paths.proofs.PlaceLaws.{first_at_is, first_all, side_by_side}
-use Rattle.query.proofs.Standing.{standing_whole, standing_zero, standing_low}
-use Rattle.query.proofs.Lents.{readable_to}
 use Rattle.query.proofs.bits.bit_behind.Given as goal
 
 -- none is set from b up to e

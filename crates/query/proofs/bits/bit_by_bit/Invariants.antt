@@ -1,12 +1,9 @@
 -- The loop keeps that the place with the number left, from there on, is the one asked for.
 use Prim.Native.Nat.{◌≤◌}
-use mathlib.Core.Path.{◌≡◌, refl, sym, ◌∙◌}
-use native.Mathlib.Omega.{arith}
+use mathlib.Core.Path.{◌≡◌}
 use Rattle.rules.specs.Layout.{bit_in}
 use Rattle.paths.specs.Places.{nth_at}
 use Rattle.layout.specs.Maps.{mapped}
-use Rattle.paths.proofs.PlaceLaws.{nth_after, nth_past, nth_first}
-use borrow.Author.Rules.{rules}
 use Rattle.query.proofs.bits.bit_by_bit.Given as goal
 
 abbrev pub invariant-loop-left : goal.invariant-loop-left

@@ -5,7 +5,6 @@ use native.Mathlib.Omega.{arith}
 use lib.Count.{trailing_le}
 use Rattle.paths.proofs.PlaceLaws.{first_none, first_at_is, first_all}
 use Rattle.query.proofs.Standing.{standing_from, standing_zero, standing_low}
-use borrow.Author.Rules.{rules}
 use Rattle.query.proofs.bits.next_bit.Goals as goal
 
 pub returns-then-e-a : goal.returns-then-e-a

@@ -1,5 +1,5 @@
 -- The loop keeps how many bits the rest of the word has, and that the place with the number left, from there on, is the one asked for.
-use Prim.Native.Nat.{◌+◌, ◌*◌, ◌-◌, ◌/◌, ◌%◌, ◌^◌, ◌≤◌, ◌<◌}
+use Prim.Native.Nat.{◌+◌, ◌*◌, ◌-◌, ◌/◌, ◌%◌, ◌^◌}
 use mathlib.Core.Path.{◌≡◌, refl, sym, ◌∙◌}
 use native.Mathlib.Omega.{arith}
 use native.Mathlib.Nat.{lt_of_le_of_lt}
@@ -7,12 +7,10 @@ use lib.Pow.{shr_le}
 use lib.Count.{ones-le}
 use Rattle.rules.specs.Word.{count}
 use Rattle.rules.specs.Layout.{bit_in}
-use Rattle.paths.specs.Places.{nth_at}
 use Rattle.layout.specs.Maps.{mapped}
 use Rattle.paths.proofs.PlaceLaws.{nth_none, nth_skip, nth_few}
 use Rattle.query.proofs.Standing.{standing_from, standing_whole, standing_ones}
 use Rattle.query.proofs.Lents.{readable_to}
-use borrow.Author.Rules.{rules}
 use Rattle.query.proofs.bits.nth_bit.Goals as goal
 
 pub returns-then-e-a : goal.returns-then-e-a
@@ -40,7 +38,7 @@ returns-then-e-at c = let i = c.loop-ones.invariant in
 
 pub word-requires-in-loop-ones : goal.word-requires-in-loop-ones
 word-requires-in-loop-ones c = let p = c.requires in
-    record { long = p.long; readable = readable_to p.readable (omega arith); }
+    record { long = p.long; readable = readable_to p.readable (omega arith) }
 
 pub overflow_cast-ones-in-loop-ones : goal.overflow_cast-ones-in-loop-ones
 overflow_cast-ones-in-loop-ones c = omega (arith, ones-le 64 _ c.word-in-loop-ones.type_inv)

@@ -1,18 +1,10 @@
 -- The loop keeps how many bits the rest of the word has, and that the place with the number left, from there on, is the one asked for.
-use Prim.Native.Nat.{◌+◌, ◌*◌, ◌-◌, ◌/◌, ◌%◌, ◌^◌, ◌≤◌, ◌<◌}
-use mathlib.Core.Path.{◌≡◌, refl, sym, ◌∙◌}
-use native.Mathlib.Omega.{arith}
-use native.Mathlib.Nat.{lt_of_le_of_lt}
-use lib.Pow.{shr_le}
-use lib.Count.{ones-le}
+use Prim.Native.Nat.{◌+◌, ◌*◌, ◌-◌, ◌≤◌, ◌<◌}
+use mathlib.Core.Path.{◌≡◌}
 use Rattle.rules.specs.Word.{count}
 use Rattle.rules.specs.Layout.{bit_in}
 use Rattle.paths.specs.Places.{nth_at}
 use Rattle.layout.specs.Maps.{mapped}
-use Rattle.paths.proofs.PlaceLaws.{nth_none, nth_skip, nth_few}
-use Rattle.query.proofs.Standing.{standing_from, standing_whole, standing_ones}
-use Rattle.query.proofs.Lents.{readable_to}
-use borrow.Author.Rules.{rules}
 use Rattle.query.proofs.bits.nth_bit.Given as goal
 
 abbrev pub invariant-loop-ones : goal.invariant-loop-ones

@@ -1,12 +1,9 @@
 -- The loop keeps that the last place before there is the one before e.
-use Prim.Native.Nat.{◌≤◌}
 use mathlib.Core.Path.{◌≡◌, refl, sym, ap, ◌∙◌}
 use mathlib.Core.Bool.{not}
 use native.Mathlib.Omega.{arith}
-use Rattle.paths.specs.Places.{byte_in, past_last}
-use Rattle.query.specs.Items.{solid}
+use Rattle.paths.specs.Places.{byte_in}
 use Rattle.paths.proofs.PlaceLaws.{last_none, last_here, last_next}
-use borrow.Author.Rules.{rules}
 use Rattle.query.proofs.blanks.drop_blanks.Goals as goal
 
 pub loop-i-init : goal.loop-i-init

@@ -1,12 +1,8 @@
 -- The loop keeps that the last place before there is the one before e.
 use Prim.Native.Nat.{◌≤◌}
-use mathlib.Core.Path.{◌≡◌, refl, sym, ap, ◌∙◌}
-use mathlib.Core.Bool.{not}
-use native.Mathlib.Omega.{arith}
+use mathlib.Core.Path.{◌≡◌}
 use Rattle.paths.specs.Places.{byte_in, past_last}
 use Rattle.query.specs.Items.{solid}
-use Rattle.paths.proofs.PlaceLaws.{last_none, last_here, last_next}
-use borrow.Author.Rules.{rules}
 use Rattle.query.proofs.blanks.drop_blanks.Given as goal
 
 abbrev pub invariant-loop-i : goal.invariant-loop-i

@@ -24,7 +24,7 @@ returns-in-13 c = sym (ap is_blank c.in-13.is)
 
 pub returns-in_default : goal.returns-in_default
 unfolding is_blank
-returns-in_default c = let b = c.args.b in 
+returns-in_default c = let b = c.args.b in
     let space : b ≡ 32 → ⊥ = omega arith in
     let tab : b ≡ 9 → ⊥ = omega arith in
     let feed : b ≡ 10 → ⊥ = omega arith in

@@ -1,12 +1,9 @@
 -- The loop keeps that the first place from there on is the one from a on.
-use Prim.Native.Nat.{◌-◌, ◌≤◌}
-use mathlib.Core.Path.{◌≡◌, refl, sym, ap, ◌∙◌}
+use mathlib.Core.Path.{refl, sym, ap, ◌∙◌}
 use mathlib.Core.Bool.{not}
 use native.Mathlib.Omega.{arith}
-use Rattle.paths.specs.Places.{byte_in, first_at}
-use Rattle.query.specs.Items.{solid}
+use Rattle.paths.specs.Places.{byte_in}
 use Rattle.paths.proofs.PlaceLaws.{first_none, first_here, first_next}
-use borrow.Author.Rules.{rules}
 use Rattle.query.proofs.blanks.skip_blanks.Goals as goal
 
 pub loop-i-init : goal.loop-i-init

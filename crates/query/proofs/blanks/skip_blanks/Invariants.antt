@@ -1,12 +1,8 @@
 -- The loop keeps that the first place from there on is the one from a on.
 use Prim.Native.Nat.{◌-◌, ◌≤◌}
-use mathlib.Core.Path.{◌≡◌, refl, sym, ap, ◌∙◌}
-use mathlib.Core.Bool.{not}
-use native.Mathlib.Omega.{arith}
+use mathlib.Core.Path.{◌≡◌}
 use Rattle.paths.specs.Places.{byte_in, first_at}
 use Rattle.query.specs.Items.{solid}
-use Rattle.paths.proofs.PlaceLaws.{first_none, first_here, first_next}
-use borrow.Author.Rules.{rules}
 use Rattle.query.proofs.blanks.skip_blanks.Given as goal
 
 abbrev pub invariant-loop-i : goal.invariant-loop-i

@@ -1,27 +1,16 @@
 -- Both loops keep where the walk over the items stands.
-use Prim.Native.Nat.{◌-◌}
-use mathlib.Core.Path.{sym, subst, ◌∙◌}
-use mathlib.Core.List.{◌∷◌, []}
+use mathlib.Core.Path.{sym, ◌∙◌}
 use native.Mathlib.Omega.{arith}
 use lib.Count.{trailing_le}
-use types.Run.{OneOf, miss}
-use denote.Enum.Declared.{tag_of}
-use Rattle.rules.specs.Layout.{bit_in, commas}
-use Rattle.paths.specs.Places.{byte_in, between}
-use Rattle.names.specs.Spelling.{matched}
-use Rattle.query.specs.Items.{lent, item_at}
-use Rattle.query.specs.declared.items.Item.{Item}
-use Rattle.query.specs.contracts.items.Item.{the_type}
 use Rattle.query.proofs.Lents.{can_read, readable_to}
 use Rattle.query.proofs.Standing.{standing_from, standing_whole}
 use Rattle.rules.proofs.BitWalk.{lowest}
-use Rattle.query.proofs.Walking.{Walking, walking_from, walking_out, walking_end, walking_stop, walking_next, walking_word}
-use borrow.Author.Rules.{rules}
+use Rattle.query.proofs.Walking.{walking_from, walking_out, walking_end, walking_stop, walking_next, walking_word}
 use Rattle.query.proofs.items.find_name.Goals as goal
 
 pub word-requires : goal.word-requires
 word-requires c = let p = c.requires in
-    record { long = p.shaped.long; readable = readable_to (can_read _ _ _ p.shaped _ p.lo_lt_hi.1 _ p.le_k) (omega (arith, p.shaped.inside)); }
+    record { long = p.shaped.long; readable = readable_to (can_read _ _ _ p.shaped _ p.lo_lt_hi.1 _ p.le_k) (omega (arith, p.shaped.inside)) }
 
 pub overflow_shr-x : goal.overflow_shr-x
 overflow_shr-x c = omega arith
@@ -40,11 +29,11 @@ overflow_add-comma c = omega (arith, trailing_le 64 c.loop-x.x)
 
 pub item_of-found-requires : goal.item_of-found-requires
 item_of-found-requires c = let p = c.requires in let g = c.loop-x.invariant in
-    record { shaped = p.shaped; le_k = p.le_k; a_le_e = (omega (arith, g.order, g.within), p.lo_lt_hi.1, p.lo_lt_hi.2, p.lo_lt_hi.3); }
+    record { shaped = p.shaped; le_k = p.le_k; a_le_e = (omega (arith, g.order, g.within), p.lo_lt_hi.1, p.lo_lt_hi.2, p.lo_lt_hi.3) }
 
 pub item_of-item-requires : goal.item_of-item-requires
 item_of-item-requires c = let p = c.requires in let g = c.loop-x.invariant in
-    record { shaped = p.shaped; le_k = p.le_k; a_le_e = (omega (arith, g.order), omega (arith, c.if-hi-comma.false), p.lo_lt_hi.2, p.lo_lt_hi.3); }
+    record { shaped = p.shaped; le_k = p.le_k; a_le_e = (omega (arith, g.order), omega (arith, c.if-hi-comma.false), p.lo_lt_hi.2, p.lo_lt_hi.3) }
 
 pub overflow_add-start : goal.overflow_add-start
 overflow_add-start c = omega arith
@@ -69,11 +58,11 @@ overflow_mul-at c = omega arith
 
 pub item_of-found-requires-then-hi-at : goal.item_of-found-requires-then-hi-at
 item_of-found-requires-then-hi-at c = let p = c.requires in let g = c.loop-x.invariant in
-    record { shaped = p.shaped; le_k = p.le_k; a_le_e = (omega (arith, g.order, g.within), p.lo_lt_hi.1, p.lo_lt_hi.2, p.lo_lt_hi.3); }
+    record { shaped = p.shaped; le_k = p.le_k; a_le_e = (omega (arith, g.order, g.within), p.lo_lt_hi.1, p.lo_lt_hi.2, p.lo_lt_hi.3) }
 
 pub word-x-requires : goal.word-x-requires
 word-x-requires c = let p = c.requires in
-    record { long = p.shaped.long; readable = readable_to (can_read _ _ _ p.shaped _ p.lo_lt_hi.1 _ p.le_k) (omega (arith, p.shaped.inside)); }
+    record { long = p.shaped.long; readable = readable_to (can_read _ _ _ p.shaped _ p.lo_lt_hi.1 _ p.le_k) (omega (arith, p.shaped.inside)) }
 
 pub walk-smaller : goal.walk-smaller
 walk-smaller c = omega arith

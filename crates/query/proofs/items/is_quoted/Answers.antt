@@ -2,8 +2,7 @@
 use Prim.Native.Nat.{◌+◌, ◌/◌, ◌%◌, ◌^◌}
 use mathlib.Core.Path.{◌≡◌}
 use native.Mathlib.Omega.{arith}
-use borrow.Author.Rules.{rules}
-use borrow.Author.Tests.{not-true, not-false, lt-ltb, le-ltb}
+use borrow.Author.Tests.{lt-ltb, le-ltb}
 use lib.Count.{trailing_le}
 use Rattle.rules.specs.Layout.{bit_in, quotes}
 use Rattle.paths.specs.Places.{first_at}

@@ -8,7 +8,7 @@ use Rattle.query.proofs.items.item_from.Goals as goal
 
 pub next_bit-end-requires : goal.next_bit-end-requires
 next_bit-end-requires c = let p = c.requires in
-    record { a_le_e = p.start_le_hi.0; long = p.shaped.long; readable = can_read _ _ _ p.shaped _ p.start_le_hi.1 _ p.le_k; }
+    record { a_le_e = p.start_le_hi.0; long = p.shaped.long; readable = can_read _ _ _ p.shaped _ p.start_le_hi.1 _ p.le_k }
 
 pub value_at-requires : goal.value_at-requires
 value_at-requires c = let a = c.args in

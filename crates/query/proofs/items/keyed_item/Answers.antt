@@ -2,13 +2,11 @@
 use Prim.Native.Nat.{◌+◌, ◌≤◌, ◌<◌}
 use mathlib.Core.Path.{sym, ◌∙◌}
 use native.Mathlib.Omega.{arith}
-use borrow.Author.Tests.{not-true, not-false}
 use Rattle.paths.specs.Places.{byte_in}
 use Rattle.query.specs.Items.{solid, keyed}
 use Rattle.paths.proofs.PlaceLaws.{first_le, last_bounds}
 use Rattle.query.proofs.ItemLaws.{quoted_long}
 use Rattle.query.proofs.Lents.{can_read}
-use borrow.Author.Rules.{rules}
 use Rattle.query.proofs.items.keyed_item.Goals as goal
 
 -- past the quotes
@@ -27,7 +25,7 @@ is_quoted-requires c = let a = c.args in
     let h = c.requires.shaped in
     let f = first_le (solid (byte_in a.text.now)) a.a a.d (omega arith) in
     let b = last_bounds (solid (byte_in a.text.now)) c.skip_blanks-p.result a.d (omega (arith, c.skip_blanks-p.ensures)) in
-    record { p_le_q = omega (arith, c.drop_blanks-q.ensures); long = h.long; readable = can_read _ _ _ h _ (omega (arith, c.drop_blanks-q.ensures)) _ tt; }
+    record { p_le_q = omega (arith, c.drop_blanks-q.ensures); long = h.long; readable = can_read _ _ _ h _ (omega (arith, c.drop_blanks-q.ensures)) _ tt }
 
 pub returns-then-not-is_quoted : goal.returns-then-not-is_quoted
 unfolding keyed

@@ -4,7 +4,6 @@ use borrow.Author.Tests.{lt-ltb, le-ltb}
 use Rattle.paths.specs.Places.{byte_in}
 use Rattle.query.specs.Items.{solid, value_at}
 use Rattle.paths.proofs.PlaceLaws.{first_le}
-use borrow.Author.Rules.{rules}
 use Rattle.query.proofs.items.value_at.Goals as goal
 
 pub drop_blanks-end-requires : goal.drop_blanks-end-requires

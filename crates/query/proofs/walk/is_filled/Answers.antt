@@ -1,7 +1,6 @@
 -- By the first place that is not blank.
 use native.Mathlib.Omega.{arith}
 use Rattle.query.specs.Walk.{filled}
-use borrow.Author.Rules.{rules}
 use Rattle.query.proofs.walk.is_filled.Goals as goal
 
 pub overflow_add-a : goal.overflow_add-a

@@ -2,14 +2,12 @@
 use Prim.Native.Nat.{◌+◌, ◌-◌, ◌<◌}
 use mathlib.Core.Path.{◌≡◌, sym, ◌∙◌}
 use native.Mathlib.Omega.{arith}
-use borrow.Author.Tests.{not-true, not-false}
 use Rattle.paths.specs.Places.{byte_in, between}
 use Rattle.query.specs.Items.{lent}
 use Rattle.query.specs.Walk.{of_item, name_step}
 use Rattle.query.specs.declared.types.Miss.TheVariants.{NoName}
 use Rattle.query.specs.declared.types.Refusal.TheVariants.{Missed}
 use Rattle.query.proofs.ItemLaws.{framed_long, filled_some}
-use borrow.Author.Rules.{rules}
 use Rattle.query.proofs.walk.name_step.Goals as goal
 
 -- there is something between the ends
@@ -37,7 +35,7 @@ overflow_sub-e c = omega (arith, some c)
 
 pub find_name-item-requires : goal.find_name-item-requires
 find_name-item-requires c = let p = c.requires in
-    record { shaped = p.shaped; le_k = p.le_k; lo_lt_hi = (some c, omega arith, p.a_le_e.2, p.a_le_e.3); }
+    record { shaped = p.shaped; le_k = p.le_k; lo_lt_hi = (some c, omega arith, p.a_le_e.2, p.a_le_e.3) }
 
 pub returns : goal.returns
 unfolding name_step

@@ -2,14 +2,12 @@
 use Prim.Native.Nat.{◌+◌, ◌-◌, ◌<◌}
 use mathlib.Core.Path.{◌≡◌, sym, ◌∙◌}
 use native.Mathlib.Omega.{arith}
-use borrow.Author.Tests.{not-true, not-false}
 use Rattle.paths.specs.Places.{byte_in}
 use Rattle.query.specs.Items.{lent}
 use Rattle.query.specs.Walk.{of_item, number_step}
 use Rattle.query.specs.declared.types.Miss.TheVariants.{NoNumber}
 use Rattle.query.specs.declared.types.Refusal.TheVariants.{Missed}
 use Rattle.query.proofs.ItemLaws.{framed_long, filled_some}
-use borrow.Author.Rules.{rules}
 use Rattle.query.proofs.walk.number_step.Goals as goal
 
 -- there is something between the ends
@@ -37,7 +35,7 @@ overflow_sub-e c = omega (arith, some c)
 
 pub item_no-item-requires : goal.item_no-item-requires
 item_no-item-requires c = let p = c.requires in
-    record { shaped = p.shaped; le_k = p.le_k; lo_le_hi = (omega (arith, some c), omega arith); }
+    record { shaped = p.shaped; le_k = p.le_k; lo_le_hi = (omega (arith, some c), omega arith) }
 
 pub returns : goal.returns
 unfolding number_step

@@ -1,6 +1,5 @@
 -- Kind by kind, as the definition.
 use mathlib.Core.Path.{◌∙◌}
-use borrow.Author.Rules.{rules}
 use Rattle.query.proofs.walk.of_item.Goals as goal
 
 pub returns-in-Found : goal.returns-in-Found

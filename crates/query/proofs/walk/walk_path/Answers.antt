@@ -1,16 +1,8 @@
 -- The loop keeps where the walk along the path stands.
-use Prim.Native.Nat.{◌-◌}
-use mathlib.Core.Path.{sym, ◌∙◌, subst}
-use mathlib.Core.List.{◌∷◌, []}
+use mathlib.Core.Path.{sym, ◌∙◌}
 use native.Mathlib.Omega.{arith}
-use lib.ListN.{length}
-use types.Run.{OneOf, miss}
-use denote.Enum.Declared.{tag_of}
-use Rattle.paths.specs.declared.PathStep.{PathStep}
-use Rattle.paths.specs.contracts.PathStep.{the_type}
 use Rattle.paths.proofs.PathLaws.{name_told, number_told}
-use Rattle.query.proofs.Going.{Going, going_start, level_name, going_name, stop_name, level_number, going_number, stop_number, stop_end}
-use borrow.Author.Rules.{rules}
+use Rattle.query.proofs.Going.{going_start, level_name, going_name, stop_name, level_number, going_number, stop_number, stop_end}
 use Rattle.query.proofs.walk.walk_path.Goals as goal
 
 pub loop-b-init : goal.loop-b-init
@@ -24,7 +16,7 @@ returns-in_default-step c = λ ss r.
 
 pub number_step-item-requires : goal.number_step-item-requires
 number_step-item-requires c = let g = c.loop-b.invariant in
-    record { shaped = c.requires.shaped; le_k = (g.level, level_number g (sym c.read_step-step.ensures ∙ c.in-Number.is)); a_le_e = (g.order, g.inside); }
+    record { shaped = c.requires.shaped; le_k = (g.level, level_number g (sym c.read_step-step.ensures ∙ c.in-Number.is)); a_le_e = (g.order, g.inside) }
 
 pub returns-in_default-item : goal.returns-in_default-item
 returns-in_default-item c = λ ss r. c.in_default-item.is ∙ sym (stop_number c.loop-b.invariant (sym c.read_step-step.ensures ∙ c.in-Number.is) (sym c.number_step-item.ensures ∙ c.in_default-item.is) ss r)
@@ -41,7 +33,7 @@ loop-b-preserved-in_default c = going_number c.loop-b.invariant (sym c.read_step
 pub name_step-member-requires : goal.name_step-member-requires
 name_step-member-requires c = let g = c.loop-b.invariant in
     let n = name_told _ _ (sym c.read_step-step.ensures ∙ c.in-Name.is) in
-    record { shaped = c.requires.shaped; le_k = (g.level, level_name g (sym c.read_step-step.ensures ∙ c.in-Name.is)); a_le_e = (g.order, g.inside, omega arith, n.2); }
+    record { shaped = c.requires.shaped; le_k = (g.level, level_name g (sym c.read_step-step.ensures ∙ c.in-Name.is)); a_le_e = (g.order, g.inside, omega arith, n.2) }
 
 pub returns-in_default-member : goal.returns-in_default-member
 returns-in_default-member c = λ ss r. c.in_default-member.is ∙ sym (stop_name c.loop-b.invariant (sym c.read_step-step.ensures ∙ c.in-Name.is) (sym c.name_step-member.ensures ∙ c.in_default-member.is) ss r)

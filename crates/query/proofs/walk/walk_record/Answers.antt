@@ -1,17 +1,11 @@
 -- The value of `$`, and the steps from it.
 use mathlib.Core.Path.{sym, ◌∙◌, subst}
-use mathlib.Core.List.{◌∷◌, []}
 use native.Mathlib.Omega.{arith}
 use lib.ListN.{length}
-use types.Run.{OneOf}
-use denote.Enum.Declared.{tag_of}
 use Rattle.paths.specs.Places.{byte_in}
 use Rattle.query.specs.Walk.{walk}
-use Rattle.query.specs.declared.items.Item.{Item}
-use Rattle.query.specs.contracts.items.Item.{the_type}
 use Rattle.query.proofs.Inside.{ItemInRecord, value_in}
 use Rattle.query.proofs.Answering.{value_empty}
-use borrow.Author.Rules.{rules}
 use Rattle.query.proofs.walk.walk_record.Goals as goal
 
 pub returns-in_default : goal.returns-in_default
@@ -22,7 +16,7 @@ returns-in_default c = let n = length c.args.text.now in
 pub walk_path-requires : goal.walk_path-requires
 walk_path-requires c = let n = length c.args.text.now in
     let i = subst (ItemInRecord n) (sym c.value_at-whole.ensures ∙ c.in-Found.is) (value_in (byte_in c.args.text.now) 0 0 n n (omega arith) (omega arith)) in
-    record { shaped = c.requires.shaped; from_le_to = (omega (arith, i), i.1); levels_value = c.requires.levels_value; }
+    record { shaped = c.requires.shaped; from_le_to = (omega (arith, i), i.1); levels_value = c.requires.levels_value }
 
 pub returns : goal.returns
 unfolding walk

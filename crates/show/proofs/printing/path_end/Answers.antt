@@ -1,12 +1,9 @@
 -- The loop keeps that the first LF from there on is the first of all.
-use Prim.Native.Nat.{◌-◌, ◌≤◌}
-use mathlib.Core.Path.{◌≡◌, refl, sym, ◌∙◌}
+use mathlib.Core.Path.{refl, sym, ◌∙◌}
 use native.Mathlib.Omega.{arith}
-use lib.ListN.{length}
 use borrow.Author.Tests.{eq-eqb, ne_eqb}
-use Rattle.paths.specs.Places.{first_at}
 use Rattle.paths.proofs.PlaceLaws.{first_none, first_here, first_next}
-use Rattle.show.specs.Printing.{is_feed, path_end}
+use Rattle.show.specs.Printing.{path_end}
 use Rattle.show.proofs.printing.path_end.Goals as goal
 
 pub loop-i-init : goal.loop-i-init

@@ -1,12 +1,9 @@
 -- The loop keeps that the first LF from there on is the first of all.
 use Prim.Native.Nat.{◌-◌, ◌≤◌}
-use mathlib.Core.Path.{◌≡◌, refl, sym, ◌∙◌}
-use native.Mathlib.Omega.{arith}
+use mathlib.Core.Path.{◌≡◌}
 use lib.ListN.{length}
-use borrow.Author.Tests.{eq-eqb, ne_eqb}
 use Rattle.paths.specs.Places.{first_at}
-use Rattle.paths.proofs.PlaceLaws.{first_none, first_here, first_next}
-use Rattle.show.specs.Printing.{is_feed, path_end}
+use Rattle.show.specs.Printing.{is_feed}
 use Rattle.show.proofs.printing.path_end.Given as goal
 
 abbrev pub invariant-loop-i : goal.invariant-loop-i

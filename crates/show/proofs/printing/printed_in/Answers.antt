@@ -1,6 +1,5 @@
 -- The job's answer chooses the line.
 use mathlib.Core.Path.{sym, ap₂, ◌∙◌}
-use borrow.Author.Rules.{rules}
 use Rattle.show.specs.Printing.{placed}
 use Rattle.show.proofs.Jobs.{after_done, after_other}
 use Rattle.show.proofs.printing.printed_in.Goals as goal

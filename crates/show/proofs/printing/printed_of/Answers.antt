@@ -8,7 +8,6 @@ use Rattle.rules.specs.Layout.{width_of, size_of}
 use Rattle.show.specs.Running.{multiples, cuts_of}
 use Rattle.show.specs.Printing.{zeros, printed_in, printed_of}
 use Rattle.show.proofs.Inputs.{take_multiples, take_zeros, take_fits, zeros_long, multiples_long}
-use borrow.Author.Rules.{rules}
 use Rattle.show.proofs.printing.printed_of.Goals as goal
 
 lent : (text path : List ℕ) → length text ≤ 16384 → {count size : ℕ} {words cuts : List ℕ} → count ≡ (length text - 1) / 1024 → size ≡ size_of 4 (length text) → words ≡ zeros 2560 → cuts ≡ multiples 15

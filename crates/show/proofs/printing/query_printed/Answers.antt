@@ -1,6 +1,5 @@
 -- By whether the answer is a part.
 use mathlib.Core.Path.{sym, ap, ◌∙◌}
-use borrow.Author.Rules.{rules}
 use Rattle.show.specs.Printing.{query_printed}
 use Rattle.show.proofs.printing.query_printed.Goals as goal
 

@@ -1,7 +1,6 @@
 -- By whether the number is one of 23 to 29.
 use mathlib.Core.Path.{◌∙◌}
 use borrow.Author.Tests.{lt-ltb, le-ltb}
-use borrow.Author.Rules.{rules}
 use Rattle.show.proofs.printing.refused.Goals as goal
 
 pub returns-then-number-lt23 : goal.returns-then-number-lt23
