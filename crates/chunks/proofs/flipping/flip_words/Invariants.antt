@@ -23,5 +23,3 @@ invariant-loop-w l = Inv l.text l.initial.words l.levels l.from l.to l.width l.w
 
 abbrev pub decreases-loop-w : goal.decreases-loop-w
 decreases-loop-w l = l.to - l.w
-
--- ASKED returns: ['value', 'words_after']

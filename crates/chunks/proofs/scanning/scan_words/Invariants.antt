@@ -27,5 +27,3 @@ invariant-loop-w l = Inv l.text l.initial.words l.levels l.from l.to l.width l.g
 
 abbrev pub decreases-loop-w : goal.decreases-loop-w
 decreases-loop-w l = l.to - l.w
-
--- ASKED returns-then-to-from: ['value', 'words_after']
