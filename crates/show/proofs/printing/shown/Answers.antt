@@ -12,7 +12,7 @@ use Rattle.show.proofs.printing.shown.Goals as goal
 
 pub returns-then-at-gt1024 : goal.returns-then-at-gt1024
 returns-then-at-gt1024 c = let a = c.args in
-    c.refused.ensures ∙ long_path a.input.now c.path_end-at.result c.path_end-at.ensures c.if-at-gt1024.true
+    c.refused.ensures ∙ long_path a.input.now c.path_end-at.result c.path_end-at.ensures (omega arith)
 
 pub slice_bounds-printed_of-end-then-at-input : goal.slice_bounds-printed_of-end-then-at-input
 slice_bounds-printed_of-end-then-at-input c = let e = c.path_end-at in sym (length-take-le e.result _ (end_within _ e.result e.ensures))
