@@ -14,6 +14,6 @@ fn print<W: Write>(out: &mut W, line: printing::Printed) -> io::Result<()> {
 // The buffer holds more than any input whose line depends on all its bytes: 1,025 + 16,385.
 fn main(rt: HostRuntime) -> io::Result<()> {
     let mut input = [0u8; 65536];
-    let n = read_full(&mut rt.reader(), &mut input)?;
-    print(&mut io::writer(&rt), printing::shown(&input[..n]))
+    let n = read_full(&mut rt.stdin(), &mut input)?;
+    print(&mut rt.stdout(), printing::shown(&input[..n]))
 }

@@ -56,8 +56,8 @@ fn main(rt: HostRuntime) -> io::Result<()> {
     let mut words = [0u64; 8192];
     let mut table = [0usize; 128];
     run(
-        &mut rt.reader(),
-        &mut io::writer(&rt),
+        &mut rt.stdin(),
+        &mut rt.stdout(),
         &mut text,
         &mut words,
         &mut table,
