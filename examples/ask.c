@@ -1,7 +1,7 @@
 /* Asks the record in FILE for PATH and writes the part it finds:  ask PATH FILE
  *
- *   (cd crates/face && rt lib)
- *   cc -std=c99 -O2 -Iinclude examples/ask.c crates/face/out/libface.a -o ask
+ *   .ci/archive
+ *   cc -std=c99 -O2 -Iinclude examples/ask.c target/staticlib/libface.a -o ask
  */
 #include <stdio.h>
 #include <stdlib.h>

@@ -1,7 +1,7 @@
 /* Indexes each line of FILE by itself and writes its number and its verdict:  lines FILE
  *
- *   (cd crates/face && rt lib)
- *   cc -std=c99 -O2 -Iinclude examples/lines.c crates/face/out/libface.a -o lines
+ *   .ci/archive
+ *   cc -std=c99 -O2 -Iinclude examples/lines.c target/staticlib/libface.a -o lines
  */
 #include <stdio.h>
 #include <stdlib.h>

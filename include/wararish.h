@@ -1,7 +1,7 @@
 /* Wararish for C and C++: a structural index over a JSON record, or over each line of a text by
  * itself, built by proved code in words that the caller lends.
  *
- * Link crates/face/out/libface.a, which `rt lib` in crates/face proves and writes (x86-64). The code
+ * Link target/staticlib/libface.a, which `.ci/archive` proves and writes (x86-64). The code
  * keeps no state, allocates nothing and starts no threads; calls that write different words, and
  * different tables, may run at once.
  *

@@ -1,4 +1,4 @@
-//! Proves the crate `face` and links its archive.
+//! Proves the crate `face_c` and links its archive.
 
 use std::path::Path;
 use std::process::Command;
@@ -19,17 +19,16 @@ fn main() {
     if machine != "x86_64" {
         panic!("the archive of proved code links only into programs for x86-64, and this one is for {machine}");
     }
-    let face = root.join("crates/face");
-    let proved = Command::new("rt").arg("lib").current_dir(&face).status();
+    let proved = Command::new(root.join(".ci/archive")).status();
     match proved {
         Ok(status) if status.success() => {}
-        Ok(status) => panic!("rt lib in crates/face: {status}"),
-        Err(why) => panic!("rt, the command of the Rattle kit, cannot be run: {why}"),
+        Ok(status) => panic!(".ci/archive: {status}"),
+        Err(why) => panic!(".ci/archive cannot be run: {why}"),
     }
-    // a copy, so that the archive outlives a later check, which may remove it
+    // a copy, so that the archive outlives a clearing of the folder that it was written to
     let out = std::env::var("OUT_DIR").expect("cargo sets OUT_DIR");
-    std::fs::copy(face.join("out/libface.a"), Path::new(&out).join("libface.a"))
-        .expect("rt wrote the archive");
+    std::fs::copy(root.join("target/staticlib/libface.a"), Path::new(&out).join("libface.a"))
+        .expect("the script wrote the archive");
     println!("cargo:rustc-link-search=native={out}");
     println!("cargo:rustc-link-lib=static=face");
 }

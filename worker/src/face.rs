@@ -6,7 +6,7 @@ use std::ops::Range;
 
 use crate::calls::Call;
 
-// As crates/face declares them, a slice being a pointer and a length. (include/wararish.h says the same to C.)
+// As crates/face_c declares them, a slice being a pointer and a length. (include/wararish.h says the same to C.)
 extern "C" {
     fn wararish_run(
         text: *const u8,

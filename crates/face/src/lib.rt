@@ -1,4 +1,4 @@
-// What a program in C or Rust calls: numbers and slices of numbers alone. (include/wararish.h tells C.)
+// What a program in C or Rust calls, by the exports of `face_c`: numbers and slices of numbers alone.
 #![tactic(auto)]
 
 ghost use Rattle.std.specs.Prelude.{◌+◌, length};
@@ -13,8 +13,7 @@ use lines::table::cut_lines;
 
 // Opens a job, makes the calls in their order, a byte each, and closes it. Tells the number and place of the close, or of the
 // opening's refusal.
-#[unsafe(no_mangle)]
-pub extern "C" fn wararish_run(
+pub fn wararish_run(
     text: &[u8],
     words: &mut [u64],
     levels: usize,
@@ -30,8 +29,7 @@ pub extern "C" fn wararish_run(
 }
 
 // The plain case: every chunk scanned with the guess 'outside', then each settled and levelled.
-#[unsafe(no_mangle)]
-pub extern "C" fn wararish_index(
+pub fn wararish_index(
     text: &[u8],
     words: &mut [u64],
     levels: usize,
@@ -47,8 +45,7 @@ pub extern "C" fn wararish_index(
 
 // The part that a path selects, as its place and its size: a foreign caller makes the slice of it. And the step that a refusal
 // tells.
-#[unsafe(no_mangle)]
-pub extern "C" fn wararish_query(
+pub fn wararish_query(
     text: &[u8],
     words: &[u64],
     levels: usize,
@@ -66,8 +63,7 @@ pub extern "C" fn wararish_query(
 }
 
 // Cuts a text into its lines, two numbers of the table each, and tells how many there are.
-#[unsafe(no_mangle)]
-pub extern "C" fn wararish_table(text: &[u8], table: &mut [usize], count: &mut usize) -> u64
+pub fn wararish_table(text: &[u8], table: &mut [usize], count: &mut usize) -> u64
     ensures { TableTells text.now table.old result count.new table.new }
 {
     let tabled = cut_lines(text, table);
@@ -76,8 +72,7 @@ pub extern "C" fn wararish_table(text: &[u8], table: &mut [usize], count: &mut u
 }
 
 // Indexes one line of a table in the front of the words. (The line's number of a fault is the one that was handed in.)
-#[unsafe(no_mangle)]
-pub extern "C" fn wararish_line(
+pub fn wararish_line(
     text: &[u8],
     table: &[usize],
     line: usize,
@@ -93,13 +88,7 @@ pub extern "C" fn wararish_line(
 }
 
 // The next line that is not blank: 1 and where it lies, or 0.
-#[unsafe(no_mangle)]
-pub extern "C" fn wararish_next_line(
-    text: &[u8],
-    from: usize,
-    start: &mut usize,
-    end: &mut usize,
-) -> u64
+pub fn wararish_next_line(text: &[u8], from: usize, start: &mut usize, end: &mut usize) -> u64
     ensures { NextTells text.now from result start.new end.new }
 {
     let next = next_line(text, from);
