@@ -8,7 +8,7 @@ pub returns-then-f-k : goal.returns-then-f-k
 returns-then-f-k c = rw (le-ltb _ _ c.if-f-k.true)
 
 pub overflow_cast-result : goal.overflow_cast-result
-overflow_cast-result c = omega (arith, c.shared_slice_known-1.given c.args.k)
+overflow_cast-result c = omega (arith, c.type_inv.path c.args.k)
 
 pub returns : goal.returns
 unfolding byte_in

@@ -3,7 +3,6 @@ use mathlib.Core.Path.{sym, ap}
 use borrow.Author.Tests.{ne_eqb}
 use Rattle.names.specs.Spelling.{short_of}
 use native.Mathlib.Omega.{arith}
-use mathlib.Core.Path.{◌≡◌}
 use Rattle.names.proofs.short_of.Goals as goal
 
 pub returns-in-34 : goal.returns-in-34
@@ -40,13 +39,15 @@ returns-in-116 c = sym (ap short_of c.in-116.is)
 
 pub returns-in_default : goal.returns-in_default
 unfolding short_of
-returns-in_default c = let b = c.args.b in
-    let quote : b ≡ 0x22 → ⊥ = omega arith in
-    let backslash : b ≡ 0x5C → ⊥ = omega arith in
-    let slash : b ≡ 0x2F → ⊥ = omega arith in
-    let b' : b ≡ 0x62 → ⊥ = omega arith in
-    let f' : b ≡ 0x66 → ⊥ = omega arith in
-    let n' : b ≡ 0x6E → ⊥ = omega arith in
-    let r' : b ≡ 0x72 → ⊥ = omega arith in
-    let t' : b ≡ 0x74 → ⊥ = omega arith in
-    rw (ne_eqb b 0x22 quote, ne_eqb b 0x5C backslash, ne_eqb b 0x2F slash, ne_eqb b 0x62 b', ne_eqb b 0x66 f', ne_eqb b 0x6E n', ne_eqb b 0x72 r', ne_eqb b 0x74 t')
+returns-in_default c =
+    let b = c.args.b in
+    rw (
+      ne_eqb b 0x22 (omega arith),
+      ne_eqb b 0x5C (omega arith),
+      ne_eqb b 0x2F (omega arith),
+      ne_eqb b 0x62 (omega arith),
+      ne_eqb b 0x66 (omega arith),
+      ne_eqb b 0x6E (omega arith),
+      ne_eqb b 0x72 (omega arith),
+      ne_eqb b 0x74 (omega arith),
+    )

@@ -6,7 +6,7 @@ use Rattle.names.proofs.SpellingLaws.{reads_plain, reads_wide, reads_short}
 use Rattle.names.proofs.spelt_at.Goals as goal
 
 pub overflow_cast-result : goal.overflow_cast-result
-overflow_cast-result c = omega (arith, c.shared_slice_known-then-text-i-ne92-1.given c.args.i)
+overflow_cast-result c = omega (arith, c.type_inv.text c.args.i)
 
 pub returns-then-text-i-ne92 : goal.returns-then-text-i-ne92
 unfolding byte_in

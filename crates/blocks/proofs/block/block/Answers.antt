@@ -21,13 +21,13 @@ module _ {t : List ℕ} (text : List ℕ) (at : ℕ) (small : (i : ℕ) → get_
 pub returns-then-text-at-ge64 : goal.returns-then-text-at-ge64
 returns-then-text-at-ge64 c = λ table.
     let a = c.args in
-    let small : (i : ℕ) → get_or a.text.now i 0 < 256 = λ i. omega (arith, c.shared_slice_known-1.given i) in
+    let small : (i : ℕ) → get_or a.text.now i 0 < 256 = λ i. omega (arith, c.type_inv.text i) in
     of_bytes a.text.now a.at small table (c.sorted.ensures _ (c.full_block.ensures _ (has_codes a.text.now a.at small table)))
 
 pub returns : goal.returns
 returns c = λ table.
     let a = c.args in
-    let small : (i : ℕ) → get_or a.text.now i 0 < 256 = λ i. omega (arith, c.shared_slice_known-1.given i) in
+    let small : (i : ℕ) → get_or a.text.now i 0 < 256 = λ i. omega (arith, c.type_inv.text i) in
     let p = c.padded-p in
     let same : (j : ℕ) → get_or p.result (0 + j) 0 ≡ get_or a.text.now (a.at + j) 0 = λ j. ap (λ (i : ℕ). get_or p.result i 0) (zero-add j) ∙ p.ensures j in
     of_bytes a.text.now a.at small table

@@ -11,13 +11,13 @@ unfolding lanes_of beside word
 loop-j-init c = (search rules, search rules, λ k e. refl)
 
 pub overflow_cast-b : goal.overflow_cast-b
-overflow_cast-b c = omega (arith, c.shared_slice_known-in-loop-j-1.given (c.args.at + c.loop-j.j))
+overflow_cast-b c = omega (arith, c.type_inv.text (c.args.at + c.loop-j.j))
 
 pub offset_bounds-t-b : goal.offset_bounds-t-b
-offset_bounds-t-b c = omega (arith, c.shared_slice_known-in-loop-j-1.given (c.args.at + c.loop-j.j))
+offset_bounds-t-b c = omega (arith, c.type_inv.text (c.args.at + c.loop-j.j))
 
 pub bounds-t-b : goal.bounds-t-b
-bounds-t-b c = omega (arith, c.shared_slice_known-in-loop-j-1.given (c.args.at + c.loop-j.j))
+bounds-t-b c = omega (arith, c.type_inv.text (c.args.at + c.loop-j.j))
 
 pub loop-j-preserved : goal.loop-j-preserved
 loop-j-preserved c = let j = c.loop-j.j in

@@ -1,5 +1,6 @@
 -- `announces` meets its contract.
 use mathlib.Core.Path.{sym, ap, ◌∙◌}
+use native.Mathlib.Omega.{arith}
 use mathlib.Core.Bool.{Bool, ◌||◌}
 use lib.IntN.{ℤ, pos, ◌+ℤ◌}
 use Rattle.index.specs.Depth.{below_zero, above64}
@@ -10,10 +11,10 @@ use Rattle.index.proofs.settling.announces.Goals as goal
 pub returns-then-falls : goal.returns-then-falls
 unfolding announced
 returns-then-falls c = let a = c.args in
-    ap (λ (b : Bool). b || above64 (pos a.c.start +ℤ a.c.kept.high)) (sym c.if-falls.true ∙ c.falls.ensures ∙ ap (λ (z : ℤ). below_zero (pos a.c.start +ℤ z)) (back32 a.c.kept.low c.struct_told-1.given.1.1.0.1))
+    ap (λ (b : Bool). b || above64 (pos a.c.start +ℤ a.c.kept.high)) (sym c.if-falls.true ∙ c.falls.ensures ∙ ap (λ (z : ℤ). below_zero (pos a.c.start +ℤ z)) (back32 a.c.kept.low (omega arith)))
 
 pub returns : goal.returns
 unfolding announced
 returns c = let a = c.args in
-    c.climbs.ensures ∙ ap (λ (z : ℤ). above64 (pos a.c.start +ℤ z)) (back32 a.c.kept.high c.struct_told-2-1.given.1.1.1.0.1)
-    ∙ ap (λ (b : Bool). b || above64 (pos a.c.start +ℤ a.c.kept.high)) (sym c.if-falls.false ∙ c.falls.ensures ∙ ap (λ (z : ℤ). below_zero (pos a.c.start +ℤ z)) (back32 a.c.kept.low c.struct_told-1.given.1.1.0.1))
+    c.climbs.ensures ∙ ap (λ (z : ℤ). above64 (pos a.c.start +ℤ z)) (back32 a.c.kept.high (omega arith))
+    ∙ ap (λ (b : Bool). b || above64 (pos a.c.start +ℤ a.c.kept.high)) (sym c.if-falls.false ∙ c.falls.ensures ∙ ap (λ (z : ℤ). below_zero (pos a.c.start +ℤ z)) (back32 a.c.kept.low (omega arith)))

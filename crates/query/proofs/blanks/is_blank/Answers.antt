@@ -3,7 +3,6 @@ use mathlib.Core.Path.{sym, ap}
 use borrow.Author.Tests.{ne_eqb}
 use Rattle.query.specs.Items.{is_blank}
 use native.Mathlib.Omega.{arith}
-use mathlib.Core.Path.{◌≡◌}
 use Rattle.query.proofs.blanks.is_blank.Goals as goal
 
 pub returns-in-32 : goal.returns-in-32
@@ -24,9 +23,5 @@ returns-in-13 c = sym (ap is_blank c.in-13.is)
 
 pub returns-in_default : goal.returns-in_default
 unfolding is_blank
-returns-in_default c = let b = c.args.b in
-    let space : b ≡ 32 → ⊥ = omega arith in
-    let tab : b ≡ 9 → ⊥ = omega arith in
-    let feed : b ≡ 10 → ⊥ = omega arith in
-    let return : b ≡ 13 → ⊥ = omega arith in
-    rw (ne_eqb b 32 space, ne_eqb b 9 tab, ne_eqb b 10 feed, ne_eqb b 13 return)
+returns-in_default c =
+    let b = c.args.b in rw (ne_eqb b 32 (omega arith), ne_eqb b 9 (omega arith), ne_eqb b 10 (omega arith), ne_eqb b 13 (omega arith))
