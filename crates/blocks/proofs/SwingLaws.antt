@@ -65,9 +65,6 @@ module _ (o c : ℕ → Bool) where
       let here = h (i + n) (omega arith) (omega arith) in
       ap (swing o c) (add-suc i n) ∙ at_none (i + n) here.0 here.1 ∙ swing_over i n (λ j a b. h j a (omega arith))
 
-pub small_up : {m k : ℕ} {s : Swing} → m ≤ k → Small m s → Small k s
-small_up h s = record { ups = omega (arith, s.ups); downs = omega (arith, s.downs); dips = omega (arith, s.dips); peaks = omega (arith, s.peaks) }
-
 pub small_past : {m k : ℕ} {s : Swing} (d : Bool) → m < k → Small m s → Small k (past s d)
 small_past true h s = record { ups = omega (arith, s.ups); downs = omega (arith, s.downs); dips = omega (arith, s.dips); peaks = omega (arith, s.ups, s.peaks) }
 small_past false h s = record { ups = omega (arith, s.ups); downs = omega (arith, s.downs); dips = omega (arith, s.downs, s.dips); peaks = omega (arith, s.peaks) }

@@ -5,3 +5,4 @@ pub mod Swinging
 pub mod Guessing
 pub mod Marking
 pub mod Spreading
+pub mod SettingBits

@@ -24,32 +24,6 @@ struct CodeBits {
     d: u64,
 }
 
-// The codes of 8 bytes: bit j of a lane is byte j. The sums of the lanes stay apart, because no bit is added twice.
-fn lanes(t: &[u32; 256], text: &[u8], at: usize) -> u64
-    requires { at + 8 ≤ length text.now }
-    ensures upper_bound { result < 4294967296 }
-    ensures by_index { (k : ℕ → Code) → Codes t.now text.now at 8 k → result ≡ lanes_of k 8 }
-{
-    let mut sum: u32 = 0;
-    let mut j: usize = 0;
-    while j < 8 {
-        let b = text[at + j] as usize;
-        sum = std::num::wrapping_add_u32(sum, t[b] << j);
-        j += 1;
-    }
-    sum as u64
-}
-
-// Two eights of bytes, 32 apart.
-fn far_lanes(t: &[u32; 256], text: &[u8], at: usize) -> u64
-    requires { at + 40 ≤ length text.now }
-    ensures { (k h : ℕ → Code) → Codes t.now text.now at 8 k → Codes t.now text.now (at + 32) 8 h → result ≡ lanes_of k 8 + 4294967296 * lanes_of h 8 }
-{
-    let low = lanes(t, text, at);
-    let high = lanes(t, text, at + 32);
-    low + 0x1_0000_0000 * high
-}
-
 // The bytes at even places. (As arithmetic, which is how it is proved; compiled, it is one mask.)
 fn evens(x: u64) -> u64
     ensures { result ≡ evens_of x }
@@ -67,7 +41,7 @@ fn woven(x: u64, y: u64) -> u64
     evens(x) + 0x100 * evens(y)
 }
 
-// The low 16 bits of each half.
+// The low 16 bits of each half. (No instance of `evens`: two terms and not four, and the proof is by the terms.)
 fn halves(x: u64) -> u64
     ensures { result ≡ halves_of x }
 {
@@ -79,6 +53,57 @@ fn joined(x: u64, y: u64) -> u64
     ensures { result ≡ halves_of x + 65536 * halves_of y }
 {
     halves(x) + 0x1_0000 * halves(y)
+}
+
+impl CodeBits {
+    // The classes that the codes are of.
+    fn sorted(self) -> Classes
+        ensures { (k : ℕ → Code) → CodeBitsOf k self → BlockOf (λ c j. coded c (k j)) result }
+    {
+        let both = self.c & self.d;
+        Classes {
+            quotes: self.a & !(self.c | self.d),
+            backslashes: self.b,
+            opens: self.c & !self.d,
+            closes: self.d & !self.c,
+            colons: both & !self.a,
+            commas: both & self.a,
+        }
+    }
+}
+
+// The bytes from at on, and zeros, which are in no class, behind the end.
+fn padded(text: &[u8], at: usize) -> [u8; 64]
+    requires { (at ≤ length text.now) × (length text.now < at + 64) }
+    ensures { (j : ℕ) → slice_index result j ≡ slice_index text.now (at + j) }
+{
+    let mut p = [0u8; 64];
+    let rest = &text[at..];
+    p[..rest.len()].copy_from_slice(rest);
+    p
+}
+
+// The codes of 8 bytes: bit j of a lane is byte j. The sums of the lanes stay apart, because no bit is added twice.
+fn lanes(t: &[u32; 256], text: &[u8], at: usize) -> u64
+    requires { at + 8 ≤ length text.now }
+    ensures upper_bound { result < 4294967296 }
+    ensures by_index { (k : ℕ → Code) → Codes t.now text.now at 8 k → result ≡ lanes_of k 8 }
+{
+    let mut sum: u32 = 0;
+    for j in 0..8 {
+        sum = sum.wrapping_add(t[text[at + j] as usize] << j);
+    }
+    sum as u64
+}
+
+// Two eights of bytes, 32 apart.
+fn far_lanes(t: &[u32; 256], text: &[u8], at: usize) -> u64
+    requires { at + 40 ≤ length text.now }
+    ensures { (k h : ℕ → Code) → Codes t.now text.now at 8 k → Codes t.now text.now (at + 32) 8 h → result ≡ lanes_of k 8 + 4294967296 * lanes_of h 8 }
+{
+    let low = lanes(t, text, at);
+    let high = lanes(t, text, at + 32);
+    low + 0x1_0000_0000 * high
 }
 
 // The lanes of the eights, turned into words: those of one lane are brought side by side, first two and two, then four and four.
@@ -102,44 +127,13 @@ fn full_block(t: &[u32; 256], text: &[u8], at: usize) -> CodeBits
     }
 }
 
-// The classes that the codes are of.
-fn sorted(x: CodeBits) -> Classes
-    ensures { (k : ℕ → Code) → CodeBitsOf k x → BlockOf (λ c j. coded c (k j)) result }
-{
-    let both = x.c & x.d;
-    Classes {
-        quotes: x.a & !(x.c | x.d),
-        backslashes: x.b,
-        opens: x.c & !x.d,
-        closes: x.d & !x.c,
-        colons: both & !x.a,
-        commas: both & x.a,
-    }
-}
-
-// The bytes from at on, and zeros, which are in no class, behind the end.
-fn padded(text: &[u8], at: usize) -> [u8; 64]
-    requires { (at ≤ length text.now) × (length text.now < at + 64) }
-    ensures { (j : ℕ) → slice_index result j ≡ slice_index text.now (at + j) }
-{
-    let mut p = [0u8; 64];
-    let n = text.len() - at;
-    let mut j: usize = 0;
-    while j < n {
-        p[j] = text[at + j];
-        j += 1;
-    }
-    p
-}
-
 // The classes of the 64 bytes from at on; behind the end there are none.
 pub fn block(t: &[u32; 256], text: &[u8], at: usize) -> Classes
     requires { at ≤ length text.now }
     ensures { TableOf t.now → BlockOf (λ c j. has c text.now (at + j)) result }
 {
     if 64 <= text.len() - at {
-        return sorted(full_block(t, text, at));
+        return full_block(t, text, at).sorted();
     }
-    let p = padded(text, at);
-    sorted(full_block(t, &p, 0))
+    full_block(t, &padded(text, at), 0).sorted()
 }

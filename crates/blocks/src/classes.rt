@@ -42,30 +42,27 @@ const CLASSES: [[u32; 16]; 16] = [
     [o, o, o, o, o, o, o, o, o, o, o, o, o, o, o, o], // F
 ];
 
-// One row, behind the entries that are laid already.
+// One row, behind the entries that are laid already. (By hand: the rows become stores of constants so; by copy_from_slice they are copied when
+// it runs, and a line's index takes a tenth longer.)
 fn put_row(t: &mut [u32; 256], row: &[u32; 16], from: usize)
     requires { (length t.old ≡ 256) × (from + 16 ≤ 256) }
     ensures t_len { length t.new ≡ 256 }
     ensures by_index { (f : ℕ → ℕ) → Filled f from t.old → ((j : ℕ) → j < 16 → slice_index row.now j ≡ f (from + j)) → Filled f (from + 16) t.new }
 {
-    let mut j: usize = 0;
-    while j < 16 {
+    for j in 0..16 {
         t[from + j] = row[j];
-        j += 1;
     }
 }
 
-// The rows one behind the other. A step makes it once and lends it down, since a constant array would be copied at every use.
+// The rows one behind the other. A step makes it once and lends it down, since a constant array would be copied at every use. (No struct with
+// `TableOf` as its invariant: it would be copied where it is made, and the listed theorem `block_spec` speaks of any entries.)
 pub fn table() -> [u32; 256]
     ensures { TableOf result }
 {
     let rows = CLASSES;
     let mut t = [0u32; 256];
-    let mut i: usize = 0;
-    while i < 16 {
-        let row = rows[i];
-        put_row(&mut t, &row, 16 * i);
-        i += 1;
+    for i in 0..16 {
+        put_row(&mut t, &rows[i], 16 * i);
     }
     t
 }

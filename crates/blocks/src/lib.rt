@@ -2,6 +2,7 @@
 // at which depth. No chunk, no job, no lent word.
 #![tactic(auto)]
 
+pub mod bits;
 pub mod block;
 pub mod classes;
 pub mod marking;

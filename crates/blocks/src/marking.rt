@@ -27,33 +27,23 @@ pub fn mark_word(t: &[u32; 256], text: &[u8], w: usize, carry: bool, inside: boo
     let at = 64 * w;
     let b = block(t, text, at);
     let e = escapes(b.backslashes, carry);
-    let escaped = e.word;
-    let quotes = b.quotes & !escaped;
+    let quotes = b.quotes & !e.word;
     let m = mask_word(quotes, inside, live(text.len() - at));
-    let mask = m.word;
     Marked {
-        quotes: quotes,
-        mask: mask,
-        opens: b.opens & !mask,
-        closes: b.closes & !mask,
+        quotes,
+        mask: m.word,
+        opens: b.opens & !m.word,
+        closes: b.closes & !m.word,
         carry: e.carry,
         inside: m.inside,
     }
 }
 
-// Whether byte `at` is escaped: the run of backslashes that ends before it is walked back.
+// Whether byte `at` is escaped: the run of backslashes that ends before it is odd.
 pub fn run_odd(text: &[u8], at: usize) -> bool
     requires { at ≤ length text.now }
     ensures { result ≡ escaped text.now at }
 {
-    let mut odd = false;
-    let mut i = at;
-    while 0 < i {
-        if text[i - 1] != 92 {
-            return odd;
-        }
-        odd = !odd;
-        i -= 1;
-    }
-    odd
+    let run = text[..at].iter().rev().take_while(|b| **b == b'\\').count();
+    run % 2 == 1
 }

@@ -33,10 +33,10 @@ pub fn escapes(bs: u64, carry: bool) -> Escaped
     let c = carry as u64;
     let follows = (bs << 1) | c;
     let starts = bs & (!follows & ODD);
-    let sum = std::num::wrapping_add_u64(std::num::wrapping_add_u64(bs, starts), c);
+    let sum = bs.wrapping_add(starts).wrapping_add(c);
     let word = follows & (((sum ^ bs) ^ starts) ^ ODD);
     Escaped {
-        word: word,
+        word,
         carry: (bs & !word) >> 63 == 1,
     }
 }
@@ -48,22 +48,15 @@ pub fn live(left: usize) -> u64
     if left < 64 {
         (1u64 << left) - 1
     } else {
-        0xffff_ffff_ffff_ffff
+        u64::MAX
     }
-}
-
-// One of the two and not both.
-pub fn differs(a: bool, b: bool) -> bool
-    ensures { result ≡ xor a b }
-{
-    if a { !b } else { b }
 }
 
 // All 64 bits alike.
 pub fn alike(b: bool) -> u64
     ensures { result ≡ word 64 (λ i. b) }
 {
-    if b { 0xffff_ffff_ffff_ffff } else { 0 }
+    if b { u64::MAX } else { 0 }
 }
 
 #[derive(Clone, Copy)]

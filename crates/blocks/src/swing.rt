@@ -2,9 +2,11 @@
 ghost use Rattle.std.specs.Prelude.{◌≡◌, ℕ, ◌+◌, Bool};
 ghost use Rattle.blocks.specs.Swinging.{Small, past, swing, Brackets};
 
+use crate::bits::SetBits;
+
 // The openers and the closers passed, and how far at most the closers were ahead, and the openers. Two counts in place of a difference,
 // so that nothing falls below zero.
-#[derive(Clone, Copy)]
+#[derive(Clone, Copy, Default)]
 pub struct Swing {
     pub up: u32,
     pub down: u32,
@@ -12,59 +14,32 @@ pub struct Swing {
     pub peak: u32,
 }
 
-// One bracket more.
-fn passed(s: Swing, opener: bool) -> Swing
-    requires { Small 1073741824 s }
-    ensures { result ≡ past s opener }
-{
-    if opener {
-        let up = s.up + 1;
-        if s.down + s.peak < up {
-            return Swing {
-                up: up,
-                down: s.down,
-                dip: s.dip,
-                peak: up - s.down,
-            };
+impl Swing {
+    // One bracket more.
+    fn passed(self, opener: bool) -> Swing
+        requires { Small 1073741824 self }
+        ensures { result ≡ past self opener }
+    {
+        if opener {
+            let up = self.up + 1;
+            let peak = self.peak.max(up.saturating_sub(self.down));
+            Swing { up, peak, ..self }
+        } else {
+            let down = self.down + 1;
+            let dip = self.dip.max(down.saturating_sub(self.up));
+            Swing { down, dip, ..self }
         }
-        return Swing {
-            up: up,
-            down: s.down,
-            dip: s.dip,
-            peak: s.peak,
-        };
     }
-    let down = s.down + 1;
-    if s.up + s.dip < down {
-        return Swing {
-            up: s.up,
-            down: down,
-            dip: down - s.up,
-            peak: s.peak,
-        };
-    }
-    Swing {
-        up: s.up,
-        down: down,
-        dip: s.dip,
-        peak: s.peak,
-    }
-}
 
-// The brackets of a word, from one to the next.
-pub fn brackets(s: Swing, opens: u64, closes: u64) -> Swing
-    requires { Small 16777216 s }
-    ensures { (o c : ℕ → Bool) (i : ℕ) → Brackets o c i opens closes → s ≡ swing o c i → result ≡ swing o c (i + 64) }
-{
-    let mut t = s;
-    let mut at: u32 = 0;
-    let mut left = opens | closes;
-    while left != 0 {
-        let n = u64::trailing_zeros(left);
-        let place = at + n;
-        t = passed(t, (opens >> place) % 2 == 1);
-        left = (left >> n) >> 1;
-        at = place + 1;
+    // The brackets of a word, from one to the next.
+    pub fn brackets(self, opens: u64, closes: u64) -> Swing
+        requires { Small 16777216 self }
+        ensures { (o c : ℕ → Bool) (i : ℕ) → Brackets o c i opens closes → self ≡ swing o c i → result ≡ swing o c (i + 64) }
+    {
+        let mut swing = self;
+        for place in SetBits::new(opens | closes) {
+            swing = swing.passed((opens >> place) % 2 == 1);
+        }
+        swing
     }
-    t
 }

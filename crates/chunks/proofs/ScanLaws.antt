@@ -23,7 +23,7 @@ use Rattle.chunks.specs.Writing.{marks_till, Lent}
 use Rattle.blocks.specs.Marking.{MarkedWord}
 use Rattle.chunks.specs.Sweeping.{swing_by}
 use Rattle.blocks.proofs.MarkLaws.{guessed_on}
-use Rattle.blocks.proofs.SwingLaws.{swing_ext}
+use Rattle.blocks.proofs.SwingLaws.{swing_eq, swing_ext}
 
 -- ---- sizes
 
@@ -48,9 +48,10 @@ brackets_of by text from w l eo ec =
       closes_are = ec ∙ word_ext 64 _ _ (λ b h. ap (plain by closes text) (omega arith));
     }
 
-pub swing_start : (by : ℕ → Bool) (text : List ℕ) (a m : ℕ) → m ≡ 0 → ◌≡◌ {A = Swing} (record { up = 0; down = 0; dip = 0; peak = 0 }) (swing_by by text a m)
+-- no place has swung nowhere, as the default has
+pub swing_start : (by : ℕ → Bool) (text : List ℕ) (a m : ℕ) {t : Swing} → (t.up ≡ 0) × ((t.down ≡ 0) × ((t.dip ≡ 0) × (t.peak ≡ 0))) → m ≡ 0 → t ≡ swing_by by text a m
 unfolding swing_by swing dip peak count
-swing_start by text a m e = rw e
+swing_start by text a m e z = rw z (swing_eq e.0 e.1.0 e.1.1.0 e.1.1.1)
 
 -- ---- one word of a scan under the guess g about the first place of word `from`
 
@@ -107,7 +108,7 @@ module _ {text words : List ℕ} {levels to width : ℕ} (lent : Lent text words
   lent_long = lent.long ∙ ap (λ (x : ℕ). (2 + 2 * levels) * x) (sym wide)
 
   pub lent_map : (m : Map) (w : ℕ) → Has levels (mapped m) → w < to → InMap levels width m w
-  lent_map m w h l = record { few = lent.few; narrow = omega (arith, wide, width_few (length text) lent.small); has = h; inside = omega (arith, lent.within, wide) }
+  lent_map m w h l = record { has = h; inside = omega (arith, lent.within, wide) }
 
   pub lent_place : (w : ℕ) → w < to → 64 * w < length text
   lent_place w l = in_record (length text) w (omega (arith, lent.within))

@@ -7,8 +7,8 @@ use mathlib.Core.Logic.{◌⊎◌, inl, inr}
 use native.Mathlib.Omega.{arith}
 use lib.ListN.{length, take, drop, length-drop}
 use lib.Seq.{length-take-le}
-use Rattle.query.specs.declared.types.Answer.{Answer}
-use Rattle.query.specs.declared.types.Answer.TheVariants.{Found, Refused}
+use Rattle.std.specs.Prelude.{Ok}
+use Rattle.query.specs.Answer.{Answer, Found, Refused}
 use Rattle.query.specs.declared.types.Refusal.{Refusal}
 use Rattle.query.specs.declared.types.Refusal.TheVariants.{EmptyRecord, LongRecord, BadLevels, BadBuffer, BadPath, TooLarge, TooDeep, Missed, Broken}
 use Rattle.query.specs.Answers.{answer_of, number_of, place_of, refusal_number, part_of}
@@ -39,7 +39,7 @@ module _ (text words : List ℕ) (levels : ℕ) (path : List ℕ) {number place 
   query_numbers = subst (λ (n : ℕ). (n ≤ 4) ⊎ ((20 ≤ n) × (n ≤ 30))) (sym tells.number_is) (go (answer_of text words levels path))
     where
       go : (a : Answer) → (number_of a ≤ 4) ⊎ ((20 ≤ number_of a) × (number_of a ≤ 30))
-      go (Found s e) = inl (omega arith)
+      go (Ok part) = inl (omega arith)
       go (Refused why) = (refused_number why).1
 
   -- 0: so many bytes from the place on lie in the record, and are the part
@@ -48,8 +48,8 @@ module _ (text words : List ℕ) (levels : ℕ) (path : List ℕ) {number place 
     where
       go : (a : Answer) → InRecord (length text) a → number ≡ number_of a → place ≡ place_of a → size ≡ length (part_of text a)
           → (0 < size) × (place + size ≤ length text) × (take size (drop place text) ≡ part_of text a)
-      go (Found s e) i n p l =
-          let long : size ≡ e - s = l ∙ length-take-le (e - s) (drop s text) (omega (arith, i, length-drop s text)) in
+      go (Ok part) i n p l =
+          let long : size ≡ part.end - part.start = l ∙ length-take-le (part.end - part.start) (drop part.start text) (omega (arith, i, length-drop part.start text)) in
           (omega (arith, i, long), omega (arith, i, long, p), rw (long, p))
       go (Refused why) i n p l = absurd (omega (arith, n, z, (refused_number why).0))
 
@@ -58,7 +58,7 @@ module _ (text words : List ℕ) (levels : ℕ) (path : List ℕ) {number place 
   no_part_told z = go (answer_of text words levels path) tells.number_is tells.size_is
     where
       go : (a : Answer) → number ≡ number_of a → size ≡ length (part_of text a) → size ≡ 0
-      go (Found s e) n l = absurd (z n)
+      go (Ok part) n l = absurd (z n)
       go (Refused why) n l = l
 
   -- 23 to 30: the record has a byte at the place

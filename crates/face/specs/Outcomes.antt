@@ -1,14 +1,12 @@
 -- What the contracts of the face say: an answer told as the scope's number and the value beside it.
-use Rattle.std.specs.Prelude.{ℕ, ◌≡◌, List, length}
+use Rattle.std.specs.Prelude.{ℕ, ◌≡◌, List, length, Some, None}
 use Rattle.index.specs.Answers.{number_of, place_of}
 use Rattle.runs.specs.Runs.{Call}
 use Rattle.runs.specs.Whole.{whole_answer, whole_words}
 use Rattle.query.specs.Answers as query
-use Rattle.lines.specs.Lines.{line_from}
+use Rattle.lines.specs.Lines.{Line, line_from}
 use Rattle.lines.specs.Tables.{tabled_number, tabled_count, table_answer, table_after}
 use Rattle.lines.specs.Jobs.{line_number, line_place, line_answer, line_words}
-use Rattle.lines.specs.declared.Line.{Line}
-use Rattle.lines.specs.declared.Line.TheVariants.{At, End}
 
 -- of a whole run: the number and place of its close, or of its opening's refusal, and the words behind it
 pub record RunTells (text words : List ℕ) (levels : ℕ) (cuts : List ℕ) (calls : List Call) (number place : ℕ) (after : List ℕ) : Type 0 where
@@ -36,8 +34,8 @@ pub record LineTells (text table : List ℕ) (line levels : ℕ) (words : List �
   pub words_are : after ≡ line_words text table line levels words
 
 abbrev pub on_line : {A : Type 0} → Line → (ℕ → ℕ → A) → A → A
-on_line (At s e) some none = some s e
-on_line End some none = none
+on_line (Some l) some none = some l.start l.end
+on_line None some none = none
 
 -- of the next line: whether there is one, and where it lies
 pub record NextTells (text : List ℕ) (from some start end : ℕ) : Type 0 where

@@ -6,10 +6,9 @@ ghost use Rattle.runs.specs.Whole.{plainly};
 ghost use Rattle.whole.specs.Calls.{calls_of};
 ghost use Rattle.face.specs.Outcomes.{RunTells, QueryTells, TableTells, LineTells, NextTells};
 
-use lines::Line;
 use lines::cutting::next_line;
 use lines::indexing::index_line;
-use lines::table::cut_lines;
+use lines::table::{Tabled, cut_lines};
 
 // Opens a job, makes the calls in their order, a byte each, and closes it. Tells the number and place of the close, or of the
 // opening's refusal.
@@ -91,14 +90,13 @@ pub fn wararish_line(
 pub fn wararish_next_line(text: &[u8], from: usize, start: &mut usize, end: &mut usize) -> u64
     ensures { NextTells text.now from result start.new end.new }
 {
-    let next = next_line(text, from);
-    match next {
-        Line::At { start: s, end: e } => {
-            *start = s;
-            *end = e;
+    match next_line(text, from) {
+        Some(line) => {
+            *start = line.start;
+            *end = line.end;
             1
         }
-        Line::End => {
+        None => {
             *start = 0;
             *end = 0;
             0

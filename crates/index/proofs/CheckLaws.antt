@@ -2,7 +2,7 @@
 -- that decides.
 use mathlib.Core.Path.{◌≡◌, refl}
 use mathlib.Core.Bool.{Bool, true, false, not, ◌&&◌}
-use Prim.Native.Nat.{ℕ, zero, suc, ◌+◌, ◌-◌, ◌≤◌, ◌<◌}
+use Prim.Native.Nat.{ℕ, ◌+◌, ◌≤◌, ◌<◌}
 use native.Mathlib.Omega.{arith}
 use lib.Dec.{eqb, leb}
 use borrow.Author.Tests.{eqb-true, leb-true, leb-false, eq-eqb, le-leb, lt-leb, not-false}
@@ -17,9 +17,8 @@ use Rattle.index.specs.declared.Answer.TheVariants.{Done, Refused}
 use Rattle.index.specs.declared.State.{State}
 use Rattle.index.specs.declared.State.TheVariants.{Open, Stopped, Closed}
 use Rattle.index.specs.declared.Step.{Step}
-use Rattle.index.specs.declared.Step.TheVariants.{Settle}
 use Rattle.index.specs.declared.Job.{Job}
-use Rattle.index.specs.Checks.{chunks_of, chunk_at, first_word, span_of, is_last, is_closed, is_stopped, same_lengths, taken, settled_before, ready, step_checks, refusal}
+use Rattle.index.specs.Checks.{chunks_of, chunk_at, first_word, span_of, is_last, is_closed, is_stopped, same_lengths, taken, ready, step_checks, refusal}
 
 -- ---- the chunks and their words
 
@@ -61,21 +60,6 @@ pub is_open : (s : State) → is_closed s ≡ false → is_stopped s ≡ false �
 is_open Open a b = refl
 is_open (Stopped f) a b = impossible (cc)
 is_open Closed a b = impossible (cc)
-
-pub settled_before_is : (j : Job) (k : ℕ) → (k ≡ 0 → ⊥) → settled_before j k ≡ (chunk_at j (k - 1)).settled
-settled_before_is j zero h = absurd (h refl)
-settled_before_is j (suc k) h = let e : suc k - 1 ≡ k = omega arith in rw e
-
-module _ (j : Job) (k : ℕ) where
-  pub not_scanned : (chunk_at j k).scanned ≡ false → ready Settle j k ≡ false
-  not_scanned e = simp e
-
-  module _ (e : (chunk_at j k).scanned ≡ true) where
-    pub first_ready : k ≡ 0 → ready Settle j k ≡ true
-    first_ready z = simp e (rw z)
-
-    pub next_ready : (k ≡ 0 → ⊥) → ready Settle j k ≡ (chunk_at j (k - 1)).settled
-    next_ready z = simp e (settled_before_is j k z)
 
 -- ---- the lengths that are the job's
 

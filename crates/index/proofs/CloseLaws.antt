@@ -1,12 +1,9 @@
 -- Close, test by test.
-use mathlib.Core.Path.{◌≡◌, refl}
-use mathlib.Core.Bool.{Bool, true, false, ◌&&◌}
+use mathlib.Core.Path.{◌≡◌}
+use mathlib.Core.Bool.{true, false}
 use mathlib.Core.List.{List}
-use Prim.Native.Nat.{ℕ, zero, suc, ◌+◌, ◌<◌}
-use native.Mathlib.Omega.{arith}
-use native.Mathlib.Numerals.{add-one}
+use Prim.Native.Nat.{ℕ}
 use lib.ListN.{length, replicate}
-use Rattle.rules.proofs.Booleans.{impossible}
 use Rattle.index.specs.declared.Fault.{Fault}
 use Rattle.index.specs.declared.Refusal.TheVariants.{IsClosed, OtherLength, Early}
 use Rattle.index.specs.declared.Answer.{Answer}
@@ -15,36 +12,9 @@ use Rattle.index.specs.declared.State.{State}
 use Rattle.index.specs.declared.State.TheVariants.{Open, Stopped, Closed}
 use Rattle.index.specs.declared.Job.{Job}
 use Rattle.index.specs.Checks.{same_lengths, with_state}
-use Rattle.index.specs.Closing.{every, all_levelled, close_checks, fault_again, closing, unless_refused, on_fault, closed, closed_words}
+use Rattle.index.specs.Closing.{all_levelled, close_checks, fault_again, closing, unless_refused, on_fault, closed, closed_words}
 use Rattle.index.proofs.AnswerLaws.{handed}
 use Rattle.index.proofs.CheckLaws.{state_closed, state_stopped, state_open}
-
--- ---- a test of each number
-
-module _ (p : ℕ → Bool) where
-  pub every_none : every p 0 ≡ true
-  unfolding every
-  every_none = refl
-
-  pub every_more : (m : ℕ) → every p m ≡ true → p m ≡ true → every p (m + 1) ≡ true
-  unfolding every
-  every_more m e h = rw add-one (simp (e, h))
-
-  pub every_not : (m i : ℕ) → i < m → p i ≡ false → every p m ≡ false
-  unfolding every
-  every_not zero i l h = absurd (omega arith)
-  every_not (suc m) i l h = go (every p m) refl (p m) refl (every_not m i)
-    where
-      at_m : (i ≡ m → ⊥) → i < m
-      at_m n = omega arith
-
-      go : (b : Bool) → every p m ≡ b → (d : Bool) → p m ≡ d → (i < m → p i ≡ false → every p m ≡ false) → (b && d) ≡ false
-      go false a d e r = refl
-      go true a false e r = refl
-      go true a true e r =
-          let l : i < m = at_m (λ q. impossible (cc)) in
-          let f = r l h in
-          impossible (cc)
 
 -- ---- the answer
 

@@ -10,6 +10,7 @@ pub mod OpenLaws
 pub mod CloseLaws
 pub mod NumberLaws
 pub mod Cases
+pub mod Differs
 pub mod FrameLaws
 pub mod LocalityLaws
 pub mod OutcomeLaws

@@ -16,7 +16,7 @@ use Rattle.rules.specs.Layout.{Bitmap, quotes, mask, colons, commas, width_of}
 use Rattle.rules.proofs.Counting.{count_ext}
 use Rattle.rules.proofs.WordLaws.{word_at_ext}
 use Rattle.rules.proofs.LocalLaws.{SameBytes, quote_local}
-use Rattle.index.specs.declared.checks.Span.{Span}
+use Rattle.chunks.specs.declared.Span.{Span}
 use Rattle.index.specs.declared.Step.TheVariants.{Scan}
 use Rattle.index.specs.declared.Chunk.{Chunk}
 use Rattle.index.specs.declared.Job.{Job}

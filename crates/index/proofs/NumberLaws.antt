@@ -1,5 +1,6 @@
 -- The numbers of opening, of every step, of close and of asking, 0 to 16: each exactly when its condition holds and no earlier one does;
 -- and what a refused call leaves. By the laws of any list of checks.
+use Rattle.std.specs.Prelude.{Option, Some, None}
 use mathlib.Core.Path.{◌≡◌, refl, sym, ap, ◌∙◌}
 use mathlib.Core.Logic.{◌↔◌}
 use mathlib.Core.Bool.{Bool, true, false, ◌&&◌, and-false}
@@ -20,8 +21,6 @@ use Rattle.index.specs.declared.State.{State}
 use Rattle.index.specs.declared.State.TheVariants.{Open, Stopped, Closed}
 use Rattle.index.specs.declared.Step.{Step}
 use Rattle.index.specs.declared.Step.TheVariants.{Scan, Settle, Level}
-use Rattle.index.specs.declared.settling.Found.{Found}
-use Rattle.index.specs.declared.settling.Found.TheVariants.{Nothing, Here}
 use Rattle.index.specs.declared.Job.{Job}
 use Rattle.index.specs.Answers.{refusal_number, number_of, place_of, asked_number, on_done}
 use Rattle.index.specs.Numbers.{Refuses, numbers, Exactly}
@@ -106,15 +105,15 @@ unfolding refusal
 step_numbers s j n w k = exactly (step_checks s j n w k) Done (steps_rise s j n w k) done_other
 
 -- what an accepted settle answers is no refusal
-found_other : (f : Found) (r : Refusal) → number_of (found_answer f) ≡ refusal_number r → ⊥
-found_other Nothing = done_other
-found_other (Here f) = fault_other f
+found_other : (f : Option Fault) (r : Refusal) → number_of (found_answer f) ≡ refusal_number r → ⊥
+found_other None = done_other
+found_other (Some f) = fault_other f
 
-found_here : (x : Found) (f : Fault) → found_answer x ≡ Faulty f → x ≡ Here f
-found_here Nothing f e = impossible (cc)
-found_here (Here g) f e = cc
+found_here : (x : Option Fault) (f : Fault) → found_answer x ≡ Faulty f → x ≡ Some f
+found_here None f e = impossible (cc)
+found_here (Some g) f e = cc
 
-unless_found : (a : Answer) (x : Found) → Refuses (on_done a (found_answer x) a) → Refuses a
+unless_found : (a : Answer) (x : Option Fault) → Refuses (on_done a (found_answer x) a) → Refuses a
 unless_found Done x h = let r = refused_is (found_answer x) h in absurd (found_other x r.0 (ap number_of r.1))
 unless_found (Refused r) x h = h
 unless_found (Faulty f) x h = h
@@ -134,11 +133,11 @@ module _ (j : Job) (text words : List ℕ) (k : ℕ) where
   settle_numbers =
       rw then_checked (exactly (step_checks Settle j (length text) (length words) k) _ (steps_rise Settle j (length text) (length words) k) (found_other (found_by j text (settle_words j text words k) k)))
 
-  pub settle_fault : (f : Fault) → ((settled j text words k).answer ≡ Faulty f) ↔ ((refusal Settle j (length text) (length words) k ≡ Done) × (found_by j text (settle_words j text words k) k ≡ Here f))
+  pub settle_fault : (f : Fault) → ((settled j text words k).answer ≡ Faulty f) ↔ ((refusal Settle j (length text) (length words) k ≡ Done) × (found_by j text (settle_words j text words k) k ≡ Some f))
   unfolding settled refusal
   settle_fault f = (go (refusal Settle j (length text) (length words) k) (found_by j text (settle_words j text words k) k) (never_faulty (step_checks Settle j (length text) (length words) k)), λ h. rw (h.0, h.1))
     where
-      go : (a : Answer) (x : Found) → ((h : Fault) → a ≡ Faulty h → ⊥) → on_done a (found_answer x) a ≡ Faulty f → (a ≡ Done) × (x ≡ Here f)
+      go : (a : Answer) (x : Option Fault) → ((h : Fault) → a ≡ Faulty h → ⊥) → on_done a (found_answer x) a ≡ Faulty f → (a ≡ Done) × (x ≡ Some f)
       go Done x n e = (refl, found_here x f e)
       go (Refused r) x n e = impossible (cc)
       go (Faulty h) x n e = absurd (n h refl)

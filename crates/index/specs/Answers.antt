@@ -1,5 +1,5 @@
 -- What an answer says: the scope's number, and the value beside it.
-use Rattle.std.specs.Prelude.{ℕ, Bool, List, [], ◌∷◌}
+use Rattle.std.specs.Prelude.{ℕ, Bool, List, [], ◌∷◌, Option, Some, None, Result, Ok, Err}
 use Rattle.rules.specs.Word.{pick}
 use Rattle.index.specs.declared.Fault.{Fault}
 use Rattle.index.specs.declared.Fault.TheVariants.{Closer, Opener, InString, InBracket}
@@ -7,8 +7,7 @@ use Rattle.index.specs.declared.Refusal.{Refusal}
 use Rattle.index.specs.declared.Refusal.TheVariants.{Empty, TooLong, BadLevels, BadBuffer, ManyCuts, BadCut, IsClosed, IsStopped, OtherLength, NoChunk, Taken, Early}
 use Rattle.index.specs.declared.Answer.{Answer}
 use Rattle.index.specs.declared.Answer.TheVariants.{Done, Refused, Faulty}
-use Rattle.index.specs.declared.Had.{Had}
-use Rattle.index.specs.declared.Had.TheVariants as had
+use Rattle.index.specs.declared.Steps.{Steps}
 use Rattle.index.specs.declared.Asked.{Asked}
 
 abbrev pub fault_number : Fault → ℕ
@@ -62,9 +61,9 @@ place_of Done = 0
 place_of (Refused r) = refusal_place r
 place_of (Faulty f) = fault_place f
 
-abbrev had_number : Had → ℕ
-had_number had.NoChunk = 10
-had_number (had.Steps scanned settled levelled) = 0
+abbrev had_number : Option Steps → ℕ
+had_number None = 10
+had_number (Some steps) = 0
 
 -- "or 10"
 abbrev pub asked_number : Asked → ℕ
@@ -78,6 +77,11 @@ Check = Bool × Refusal
 abbrev pub checked : List Check → Answer → Answer
 checked [] a = a
 checked (c ∷ later) a = pick c.0 (Refused c.1) (checked later a)
+
+-- the answer that a check's result comes to
+abbrev pub answered : Result (Unit {0}) Refusal → Answer
+answered (Ok done) = Done
+answered (Err why) = Refused why
 
 -- what an accepted call gives, else what a refused one leaves
 abbrev pub on_done : {A : Type 0} → Answer → A → A → A

@@ -1,5 +1,5 @@
 -- What every step checks, 7 to 12 in this order; where a chunk lies; and what asking tells.
-use Rattle.std.specs.Prelude.{ℕ, zero, suc, ◌+◌, ◌/◌, min, Bool, true, false, not, ◌&&◌, List, [], ◌∷◌, get_or, set, pos, eqb, ltb, leb}
+use Rattle.std.specs.Prelude.{ℕ, zero, suc, ◌+◌, ◌/◌, min, Bool, true, false, not, ◌&&◌, List, [], ◌∷◌, get_or, set, pos, eqb, ltb, leb, Some, None}
 use Rattle.rules.specs.Word.{pick}
 use Rattle.rules.specs.Layout.{width_of, size_of}
 use Rattle.index.specs.declared.Refusal.TheVariants.{IsClosed, IsStopped, OtherLength, NoChunk, Taken, Early}
@@ -11,9 +11,8 @@ use Rattle.index.specs.declared.Step.{Step}
 use Rattle.index.specs.declared.Step.TheVariants.{Scan, Settle, Level}
 use Rattle.index.specs.declared.Chunk.{Chunk}
 use Rattle.index.specs.declared.Job.{Job}
-use Rattle.index.specs.declared.Had.TheVariants as had
 use Rattle.index.specs.declared.Asked.{Asked}
-use Rattle.index.specs.declared.checks.Span.{Span}
+use Rattle.chunks.specs.declared.Span.{Span}
 use Rattle.index.specs.Answers.{Check, checked}
 
 -- ---- the chunks of a job
@@ -62,7 +61,7 @@ unfoldable pub asked : Job → ℕ → Asked
 asked j k =
     record {
       chunks = chunks_of j;
-      had = pick (ltb k (chunks_of j)) (had.Steps (chunk_at j k).scanned (chunk_at j k).settled (chunk_at j k).levelled) had.NoChunk;
+      had = pick (ltb k (chunks_of j)) (Some (record { scanned = (chunk_at j k).scanned; settled = (chunk_at j k).settled; levelled = (chunk_at j k).levelled })) None;
     }
 
 -- ---- the conditions of 7 to 12

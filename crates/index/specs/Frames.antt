@@ -5,7 +5,7 @@ use Rattle.rules.specs.Layout.{Bitmap, quotes, mask, colons, commas, width_of, H
 use Rattle.index.specs.declared.Step.{Step}
 use Rattle.index.specs.declared.Step.TheVariants.{Scan, Settle, Level}
 use Rattle.index.specs.declared.Job.{Job}
-use Rattle.index.specs.declared.checks.Span.{Span}
+use Rattle.chunks.specs.declared.Span.{Span}
 use Rattle.index.specs.Checks.{span_of}
 
 -- scan "writes that chunk's quote words, and its mask words"; settle its mask words and "no other word"; level "colon and comma words at

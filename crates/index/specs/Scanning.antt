@@ -7,7 +7,7 @@ use Rattle.index.specs.declared.Kept.{Kept}
 use Rattle.index.specs.declared.Chunk.{Chunk}
 use Rattle.index.specs.declared.Job.{Job}
 use Rattle.index.specs.declared.Handed.{Handed}
-use Rattle.index.specs.declared.checks.Span.{Span}
+use Rattle.chunks.specs.declared.Span.{Span}
 use Rattle.index.specs.Answers.{on_done}
 use Rattle.index.specs.Checks.{chunk_at, with_chunk, span_of, refusal}
 use Rattle.index.specs.Depth.{kept_of}

@@ -1,14 +1,11 @@
 -- Settle, on all inputs.
+use Rattle.std.specs.Prelude.{Option, Some, None, Result, Ok, Err}
 use Rattle.std.specs.Prelude.{ℕ, zero, suc, ◌+◌, ◌*◌, ◌-◌, Bool, true, false, ◌||◌, List, length, pos, ◌+ℤ◌, eqb, ltb}
 use Rattle.rules.specs.Word.{pick, xor}
 use Rattle.rules.specs.Bytes.{opens, closes}
 use Rattle.rules.specs.Bits.{plain}
 use Rattle.index.specs.declared.Fault.{Fault}
 use Rattle.index.specs.declared.Fault.TheVariants.{Closer, Opener, InString, InBracket}
-use Rattle.index.specs.declared.settling.Sought.{Sought}
-use Rattle.index.specs.declared.settling.Sought.TheVariants.{On, At}
-use Rattle.index.specs.declared.settling.Found.{Found}
-use Rattle.index.specs.declared.settling.Found.TheVariants.{Nothing, Here}
 use Rattle.index.specs.declared.Step.TheVariants.{Settle}
 use Rattle.index.specs.declared.State.TheVariants.{Stopped}
 use Rattle.index.specs.declared.Answer.{Answer}
@@ -17,7 +14,7 @@ use Rattle.index.specs.declared.Kept.{Kept}
 use Rattle.index.specs.declared.Chunk.{Chunk}
 use Rattle.index.specs.declared.Job.{Job}
 use Rattle.index.specs.declared.Handed.{Handed}
-use Rattle.index.specs.declared.checks.Span.{Span}
+use Rattle.chunks.specs.declared.Span.{Span}
 use Rattle.index.specs.Answers.{on_done}
 use Rattle.index.specs.Checks.{chunk_at, with_chunk, with_state, span_of, is_last, refusal}
 use Rattle.index.specs.Depth.{kept_of, below_zero, above64, clamp_depth}
@@ -37,15 +34,15 @@ depth_past true d = d + 1
 depth_past false d = d - 1
 
 -- walking m places from i on at depth d, openers o and closers c: the first closer at depth 0 or opener at depth 64, or the depth behind
-unfoldable pub seek : (ℕ → Bool) → (ℕ → Bool) → ℕ → ℕ → ℕ → Sought
-seek o c d i zero = On d
+unfoldable pub seek : (ℕ → Bool) → (ℕ → Bool) → ℕ → ℕ → ℕ → Result ℕ Fault
+seek o c d i zero = Ok d
 seek o c d i (suc m) =
     let past = seek o c (depth_past (o i) d) (suc i) m in
     let on = seek o c d (suc i) m in
-    pick (o i || c i) (pick (eqb d (limit_of (o i))) (At (fault_of_bracket (o i) i)) past) on
+    pick (o i || c i) (pick (eqb d (limit_of (o i))) (Err (fault_of_bracket (o i) i)) past) on
 
 -- the same over the words from `from` up to `to`, by the mask as lent
-unfoldable pub seek_in : List ℕ → List ℕ → ℕ → ℕ → ℕ → ℕ → Sought
+unfoldable pub seek_in : List ℕ → List ℕ → ℕ → ℕ → ℕ → ℕ → Result ℕ Fault
 seek_in text words levels from to start =
     seek (plain (mask_in words levels (length text)) opens text) (plain (mask_in words levels (length text)) closes text) start (64 * from) (64 * (to - from))
 
@@ -82,40 +79,40 @@ settle_chunk j text words k =
 
 -- ---- the fault of a settled chunk
 
-abbrev pub of_sought : Sought → Found
-of_sought (On d) = Nothing
-of_sought (At f) = Here f
+abbrev pub of_sought : Result ℕ Fault → Option Fault
+of_sought (Ok d) = None
+of_sought (Err f) = Some f
 
 -- the kept counts say that there is one: its place is looked for only then
 unfoldable pub announced : Chunk → Bool
 announced c = below_zero (pos c.start +ℤ c.kept.low) || above64 (pos c.start +ℤ c.kept.high)
 
-unfoldable pub sought_fault : Chunk → List ℕ → List ℕ → ℕ → Span → Found
-sought_fault c text words levels s = pick (announced c) (of_sought (seek_in text words levels s.from s.to c.start)) Nothing
+unfoldable pub sought_fault : Chunk → List ℕ → List ℕ → ℕ → Span → Option Fault
+sought_fault c text words levels s = pick (announced c) (of_sought (seek_in text words levels s.from s.to c.start)) None
 
 -- at the end of the last chunk: a string that is open, then a bracket
-unfoldable pub end_fault : Chunk → ℕ → Found
-end_fault c n = pick (xor c.inside c.kept.odd) (Here (InString n)) (pick (ltb 0 (clamp_depth (pos c.start +ℤ c.kept.net))) (Here (InBracket n)) Nothing)
+unfoldable pub end_fault : Chunk → ℕ → Option Fault
+end_fault c n = pick (xor c.inside c.kept.odd) (Some (InString n)) (pick (ltb 0 (clamp_depth (pos c.start +ℤ c.kept.net))) (Some (InBracket n)) None)
 
-abbrev pub or_found : Found → Found → Found
-or_found Nothing other = other
-or_found (Here f) other = Here f
+abbrev pub or_found : Option Fault → Option Fault → Option Fault
+or_found None other = other
+or_found (Some f) other = Some f
 
-unfoldable pub chunk_fault : Chunk → List ℕ → List ℕ → ℕ → Span → Bool → Found
-chunk_fault c text words levels s last = or_found (sought_fault c text words levels s) (pick last (end_fault c (length text)) Nothing)
+unfoldable pub chunk_fault : Chunk → List ℕ → List ℕ → ℕ → Span → Bool → Option Fault
+chunk_fault c text words levels s last = or_found (sought_fault c text words levels s) (pick last (end_fault c (length text)) None)
 
 -- "If the record has a fault here, the job stops with it"
-abbrev pub found_answer : Found → Answer
-found_answer Nothing = Done
-found_answer (Here f) = Faulty f
+abbrev pub found_answer : Option Fault → Answer
+found_answer None = Done
+found_answer (Some f) = Faulty f
 
-abbrev pub found_job : Found → Job → Job
-found_job Nothing j = j
-found_job (Here f) j = with_state j (Stopped f)
+abbrev pub found_job : Option Fault → Job → Job
+found_job None j = j
+found_job (Some f) j = with_state j (Stopped f)
 
 -- ---- the step: `words` are those that it leaves
 
-unfoldable pub found_by : Job → List ℕ → List ℕ → ℕ → Found
+unfoldable pub found_by : Job → List ℕ → List ℕ → ℕ → Option Fault
 found_by j text words k = chunk_fault (settle_chunk j text words k) text words j.levels (span_of j (length text) k) (is_last j k)
 
 unfoldable pub settled : Job → List ℕ → List ℕ → ℕ → Handed

@@ -1,5 +1,4 @@
 -- The crate's own types and their constructors, under names that theorems of other crates can use: no code outside can name or make them.
-use Rattle.std.specs.Prelude.{ℕ}
 
 abbrev pub Kept : Type 0
 Kept = Rattle.index.specs.declared.Kept.Kept
@@ -14,16 +13,10 @@ abbrev pub Step : Type 0
 Step = Rattle.index.specs.declared.Step.Step
 
 abbrev pub Span : Type 0
-Span = Rattle.index.specs.declared.checks.Span.Span
+Span = Rattle.chunks.specs.declared.Span.Span
 
 abbrev pub Swing : Type 0
 Swing = Rattle.blocks.specs.declared.swing.Swing.Swing
-
-abbrev pub Sought : Type 0
-Sought = Rattle.index.specs.declared.settling.Sought.Sought
-
-abbrev pub Found : Type 0
-Found = Rattle.index.specs.declared.settling.Found.Found
 
 abbrev pub Open : State
 Open = Rattle.index.specs.declared.State.TheVariants.Open
@@ -42,15 +35,3 @@ Settle = Rattle.index.specs.declared.Step.TheVariants.Settle
 
 abbrev pub Level : Step
 Level = Rattle.index.specs.declared.Step.TheVariants.Level
-
-abbrev pub On : ℕ → Sought
-On x = Rattle.index.specs.declared.settling.Sought.TheVariants.On x
-
-abbrev pub At : Rattle.index.specs.declared.Fault.Fault → Sought
-At x = Rattle.index.specs.declared.settling.Sought.TheVariants.At x
-
-abbrev pub Nothing : Found
-Nothing = Rattle.index.specs.declared.settling.Found.TheVariants.Nothing
-
-abbrev pub Here : Rattle.index.specs.declared.Fault.Fault → Found
-Here x = Rattle.index.specs.declared.settling.Found.TheVariants.Here x

@@ -1,8 +1,8 @@
-// The scope's number of what a call answers, and the value beside it.
+// The scope's number of what a call answers, and the value beside it. (By arms: a variant with a place has no number of its own to cast.)
 ghost use Rattle.std.specs.Prelude.{◌≡◌};
 ghost use Rattle.index.specs.Answers.{fault_number, fault_place, refusal_number, refusal_place, number_of, place_of, asked_number};
 
-use crate::{Answer, Asked, Fault, Had, Refusal};
+use crate::{Answer, Asked, Fault, Refusal};
 
 impl Fault {
     pub fn number(self) -> u64
@@ -20,10 +20,7 @@ impl Fault {
         ensures { result ≡ fault_place self }
     {
         match self {
-            Fault::Closer(p) => p,
-            Fault::Opener(p) => p,
-            Fault::InString(p) => p,
-            Fault::InBracket(p) => p,
+            Fault::Closer(p) | Fault::Opener(p) | Fault::InString(p) | Fault::InBracket(p) => p,
         }
     }
 }
@@ -52,18 +49,8 @@ impl Refusal {
         ensures { result ≡ refusal_place self }
     {
         match self {
-            Refusal::Empty => 0,
-            Refusal::TooLong => 0,
-            Refusal::BadLevels => 0,
-            Refusal::BadBuffer => 0,
-            Refusal::ManyCuts => 0,
             Refusal::BadCut(i) => i,
-            Refusal::IsClosed => 0,
-            Refusal::IsStopped => 0,
-            Refusal::OtherLength => 0,
-            Refusal::NoChunk => 0,
-            Refusal::Taken => 0,
-            Refusal::Early => 0,
+            _ => 0,
         }
     }
 }
@@ -94,14 +81,9 @@ impl Asked {
     pub fn number(self) -> u64
         ensures { result ≡ asked_number self }
     {
-        let had = self.had;
-        match had {
-            Had::NoChunk => 10,
-            Had::Steps {
-                scanned: _,
-                settled: _,
-                levelled: _,
-            } => 0,
+        match self.had {
+            None => 10,
+            Some(_) => 0,
         }
     }
 }

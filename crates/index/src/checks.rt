@@ -1,17 +1,14 @@
 // What every step checks, where a chunk lies, and what asking tells.
-ghost use Rattle.std.specs.Prelude.{◌≡◌, ◌≤◌, ◌<◌};
-ghost use Rattle.index.specs.Checks.{chunks_of, with_chunk, with_state, first_word, is_last, span_of, same_lengths, taken, ready, refusal};
+ghost use Rattle.std.specs.Prelude.{◌≡◌, ◌≤◌};
+ghost use Rattle.index.specs.Answers.{answered};
+ghost use Rattle.index.specs.declared.Answer.TheVariants.{Refused};
+ghost use Rattle.index.specs.Checks.{chunks_of, chunk_at, with_chunk, with_state, first_word, is_last, span_of, same_lengths, taken, ready, refusal};
 ghost use Rattle.index.specs.Outcomes.{AskGives};
 
-use crate::{Answer, Asked, Chunk, Had, Job, Refusal, State, Step};
+use crate::opening::fresh_chunk;
+use crate::{Answer, Asked, Chunk, Handed, Job, Refusal, State, Step, Steps};
+use chunks::Span;
 use layout::{size_of, width_of};
-
-// Words of a bitmap, from `from` up to `to`.
-#[derive(Clone, Copy)]
-pub struct Span {
-    pub from: usize,
-    pub to: usize,
-}
 
 impl Chunk {
     fn took(self, s: Step) -> bool
@@ -27,154 +24,133 @@ impl Chunk {
 
 impl Job {
     // Never above 64, whatever the job.
-    pub(crate) fn chunks(self) -> usize
-        ensures { result ≡ chunks_of self }
+    pub(crate) fn chunks(&self) -> usize
+        ensures { result ≡ chunks_of self.now }
     {
-        let c = self.count;
-        if 64 < c { 64 } else { c }
+        self.count.min(64)
+    }
+
+    // Chunk k; a number that no chunk has gives a fresh one. (By reference: by value each look at a chunk would copy the job.)
+    pub(crate) fn chunk(&self, k: usize) -> Chunk
+        ensures { result ≡ chunk_at self.now k }
+    {
+        if k < 64 {
+            self.chunks[k]
+        } else {
+            fresh_chunk(0)
+        }
     }
 
     pub fn ask(self, k: usize) -> Asked
         ensures { AskGives self k result }
     {
-        let m = self.chunks();
-        if k < m {
-            let c = self.chunks[k];
-            Asked {
-                chunks: m,
-                had: Had::Steps {
-                    scanned: c.scanned,
-                    settled: c.settled,
-                    levelled: c.levelled,
-                },
-            }
-        } else {
-            Asked {
-                chunks: m,
-                had: Had::NoChunk,
-            }
+        let chunks = self.chunks();
+        let c = self.chunk(k);
+        let steps = Steps {
+            scanned: c.scanned,
+            settled: c.settled,
+            levelled: c.levelled,
+        };
+        Asked {
+            chunks,
+            had: (k < chunks).then_some(steps),
         }
     }
 
     pub(crate) fn with_chunk(mut self, k: usize, c: Chunk) -> Job
-        requires { k < 64 }
         ensures { result ≡ with_chunk self k c }
     {
-        self.chunks[k] = c;
+        if k < 64 {
+            self.chunks[k] = c;
+        }
         self
     }
 
     pub(crate) fn with_state(self, state: State) -> Job
         ensures { result ≡ with_state self state }
     {
-        let chunks = self.chunks;
-        Job {
-            n: self.n,
-            levels: self.levels,
-            count: self.count,
-            state: state,
-            chunks: chunks,
-        }
+        Job { state, ..self }
     }
 
-    fn first_word(self, n: usize, k: usize) -> usize
-        requires { (n ≤ 16777216) × (k < 64) }
-        ensures { result ≡ first_word self n k }
+    fn first_word(&self, n: usize, k: usize) -> usize
+        requires { n ≤ 16777216 }
+        ensures { result ≡ first_word self.now n k }
     {
-        let width = width_of(n);
-        let c = self.chunks[k];
-        let at = c.cut / 64;
-        if width < at { width } else { at }
+        (self.chunk(k).cut / 64).min(width_of(n))
     }
 
-    pub(crate) fn is_last(self, k: usize) -> bool
-        requires { k < 64 }
-        ensures { result ≡ is_last self k }
+    pub(crate) fn is_last(&self, k: usize) -> bool
+        ensures { result ≡ is_last self.now k }
     {
-        self.chunks() <= k + 1
+        self.chunks() <= k || self.chunks() == k + 1
     }
 
     // The words of chunk k, within those of a record of n bytes whatever the job.
-    pub(crate) fn span(self, n: usize, k: usize) -> Span
-        requires { (n ≤ 16777216) × (k < 64) }
-        ensures { result ≡ span_of self n k }
+    pub(crate) fn span(&self, n: usize, k: usize) -> Span
+        requires { n ≤ 16777216 }
+        ensures { result ≡ span_of self.now n k }
     {
         let from = self.first_word(n, k);
-        if self.is_last(k) {
-            let width = width_of(n);
-            return Span {
-                from: from,
-                to: width,
-            };
-        }
-        let to = self.first_word(n, k + 1);
-        Span { from: from, to: to }
+        let to = if self.is_last(k) {
+            width_of(n)
+        } else {
+            self.first_word(n, k + 1)
+        };
+        Span { from, to }
     }
 
     // Whether a record of n bytes and a buffer of w words are as long as the job's.
-    pub(crate) fn fits(self, n: usize, w: usize) -> bool
-        ensures { result ≡ same_lengths self n w }
+    pub(crate) fn fits(&self, n: usize, w: usize) -> bool
+        ensures { result ≡ same_lengths self.now n w }
     {
-        let own = self.n;
-        let levels = self.levels;
-        if n != own {
+        if n != self.n || 16777216 < n || 16 < self.levels {
             return false;
         }
-        if 16777216 < n {
-            return false;
-        }
-        if 16 < levels {
-            return false;
-        }
-        size_of(levels, n) == w
+        size_of(self.levels, n) == w
     }
 
-    fn is_ready(self, s: Step, k: usize) -> bool
-        requires { k < 64 }
-        ensures { result ≡ ready s self k }
+    fn is_ready(&self, s: Step, k: usize) -> bool
+        ensures { result ≡ ready s self.now k }
     {
-        let c = self.chunks[k];
+        let c = self.chunk(k);
         match s {
             Step::Scan => true,
-            Step::Settle => {
-                if !c.scanned {
-                    return false;
-                }
-                if k == 0 {
-                    return true;
-                }
-                let before = self.chunks[k - 1];
-                before.settled
-            }
+            Step::Settle => c.scanned && (k == 0 || self.chunk(k - 1).settled),
             Step::Level => c.settled,
         }
     }
 
-    // The refusal of a step, 7 to 12 in this order; Done where there is none.
-    pub(crate) fn refused(self, s: Step, n: usize, w: usize, k: usize) -> Answer
-        ensures { result ≡ refusal s self n w k }
+    // The refusals of a step, 7 to 12 in this order.
+    pub(crate) fn check(&self, s: Step, n: usize, w: usize, k: usize) -> Result<(), Refusal>
+        ensures { answered result ≡ refusal s self.now n w k }
     {
-        let state = self.state;
-        match state {
-            State::Closed => Answer::Refused(Refusal::IsClosed),
-            State::Stopped(_) => Answer::Refused(Refusal::IsStopped),
-            State::Open => {
-                if !self.fits(n, w) {
-                    return Answer::Refused(Refusal::OtherLength);
-                }
-                if self.chunks() <= k {
-                    return Answer::Refused(Refusal::NoChunk);
-                }
-                let c = self.chunks[k];
-                if c.took(s) {
-                    return Answer::Refused(Refusal::Taken);
-                }
-                if self.is_ready(s, k) {
-                    Answer::Done
-                } else {
-                    Answer::Refused(Refusal::Early)
-                }
-            }
+        match self.state {
+            State::Closed => return Err(Refusal::IsClosed),
+            State::Stopped(_) => return Err(Refusal::IsStopped),
+            State::Open => {}
+        }
+        if !self.fits(n, w) {
+            return Err(Refusal::OtherLength);
+        }
+        if self.chunks() <= k {
+            return Err(Refusal::NoChunk);
+        }
+        if self.chunk(k).took(s) {
+            return Err(Refusal::Taken);
+        }
+        if !self.is_ready(s, k) {
+            return Err(Refusal::Early);
+        }
+        Ok(())
+    }
+
+    // A refused call hands the job back as it was.
+    pub(crate) fn refused(self, why: Refusal) -> Handed
+        ensures { result ≡ record { answer = Refused why; job = self } }
+    {
+        Handed {
+            answer: Answer::Refused(why),
+            job: self,
         }
     }
 }

@@ -7,27 +7,17 @@ use crate::{Answer, Handed, Job, Refusal, State};
 use layout::zero_words;
 
 impl Job {
-    fn all_levelled(self) -> bool
-        ensures { result ≡ all_levelled self }
+    fn all_levelled(&self) -> bool
+        ensures { result ≡ all_levelled self.now }
     {
-        let m = self.chunks();
-        let mut k = 0;
-        while k < m {
-            let c = self.chunks[k];
-            if !c.levelled {
-                return false;
-            }
-            k += 1;
-        }
-        true
+        self.chunks.iter().take(self.chunks()).all(|c| c.levelled)
     }
 
     // The refusal of a close, 7, 9 and 12 in this order, or the fault that the job stopped with.
-    fn close_answer(self, n: usize, w: usize) -> Answer
-        ensures { result ≡ closing self n w }
+    fn close_answer(&self, n: usize, w: usize) -> Answer
+        ensures { result ≡ closing self.now n w }
     {
-        let state = self.state;
-        match state {
+        match self.state {
             State::Closed => Answer::Refused(Refusal::IsClosed),
             State::Stopped(f) => {
                 if self.fits(n, w) {
@@ -52,21 +42,18 @@ impl Job {
     pub fn close(self, text: &[u8], words: &mut [u64]) -> Handed
         ensures { CloseGives self text.now words.old result words.new }
     {
-        let a = self.close_answer(text.len(), words.len());
-        match a {
-            Answer::Refused(_) => Handed {
-                answer: a,
-                job: self,
-            },
+        let answer = self.close_answer(text.len(), words.len());
+        match answer {
+            Answer::Refused(why) => self.refused(why),
             Answer::Faulty(_) => {
                 zero_words(words);
                 Handed {
-                    answer: a,
+                    answer,
                     job: self.with_state(State::Closed),
                 }
             }
             Answer::Done => Handed {
-                answer: a,
+                answer,
                 job: self.with_state(State::Closed),
             },
         }

@@ -11,7 +11,7 @@ pub(crate) fn kept_of(odd: bool, s: Swing) -> Kept
     ensures { result ≡ kept_of odd s }
 {
     Kept {
-        odd: odd,
+        odd,
         net: (s.up as i32) - (s.down as i32),
         low: 0 - (s.dip as i32),
         high: s.peak as i32,
@@ -22,14 +22,7 @@ pub(crate) fn kept_of(odd: bool, s: Swing) -> Kept
 pub(crate) fn depth_after(start: u32, net: i32) -> u32
     ensures { result ≡ clamp_depth (pos start +ℤ net) }
 {
-    let d = (start as i64) + (net as i64);
-    if d < 0 {
-        return 0;
-    }
-    if 64 < d {
-        return 64;
-    }
-    d as u32
+    start.saturating_add_signed(net).min(64)
 }
 
 // Whether the depth falls below 0 in the chunk.

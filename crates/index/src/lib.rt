@@ -36,6 +36,7 @@ pub enum Refusal {
     Early,
 }
 
+// Three outcomes: close tells a fault beside the refusals, so it is no Result.
 #[derive(Clone, Copy)]
 pub enum Answer {
     Done,
@@ -78,6 +79,7 @@ pub(crate) struct Chunk {
     pub(crate) kept: Kept,
 }
 
+// 64 places for chunks and a count: nothing allocates, and the theorems speak of any job, whatever its count.
 #[derive(Clone, Copy)]
 pub struct Job {
     pub(crate) n: usize,
@@ -87,26 +89,24 @@ pub struct Job {
     pub(crate) chunks: [Chunk; 64],
 }
 
-// What every call hands back.
+// What every call hands back: the job is one value handed on, lent to none.
 #[derive(Clone, Copy)]
 pub struct Handed {
     pub answer: Answer,
     pub job: Job,
 }
 
-// Which steps a chunk has had; NoChunk is 10.
+// Which steps a chunk has had.
 #[derive(Clone, Copy)]
-pub enum Had {
-    NoChunk,
-    Steps {
-        scanned: bool,
-        settled: bool,
-        levelled: bool,
-    },
+pub struct Steps {
+    pub scanned: bool,
+    pub settled: bool,
+    pub levelled: bool,
 }
 
+// How many chunks there are, and what one of them has had; None is 10.
 #[derive(Clone, Copy)]
 pub struct Asked {
     pub chunks: usize,
-    pub had: Had,
+    pub had: Option<Steps>,
 }

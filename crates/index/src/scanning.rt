@@ -8,30 +8,23 @@ ghost use Rattle.index.specs.Outcomes.{ScanGives};
 
 use crate::depth::kept_of;
 use crate::{Answer, Chunk, Handed, Job, Step};
-use blocks::marks::differs;
 use chunks::scanning::scan_words;
 
 impl Job {
-    // The chunk as scanned, its words written.
+    // The chunk as scanned, its words written. (`Fitting` relates job, record and words: no one value has them, since it would hold the words.)
     fn scan_chunk(self, text: &[u8], words: &mut [u64], k: usize, inside: bool) -> Chunk
-        requires { Fitting self (length text.now) (length words.old) k }
+        requires { Fitting self (length text.now) (length words.old) }
         ensures value { result ≡ scan_chunk self text.now k inside }
         ensures words_after { words.new ≡ scan_words text.now self.levels (span_of self (length text.now) k).from (span_of self (length text.now) k).to inside words.old }
     {
         let s = self.span(text.len(), k);
-        let swept = scan_words(text, words, self.levels, s.from, s.to, inside);
-        let odd = differs(swept.inside, inside);
-        let swing = swept.swing;
-        let kept = kept_of(odd, swing);
-        let c = self.chunks[k];
+        let swept = scan_words(text, words, self.levels, s, inside);
+        let kept = kept_of(swept.inside != inside, swept.swing);
         Chunk {
-            cut: c.cut,
             scanned: true,
-            settled: c.settled,
-            levelled: c.levelled,
-            inside: inside,
-            start: c.start,
-            kept: kept,
+            inside,
+            kept,
+            ..self.chunk(k)
         }
     }
 
@@ -39,13 +32,9 @@ impl Job {
     pub fn scan(self, text: &[u8], words: &mut [u64], k: usize, inside: bool) -> Handed
         ensures { ScanGives self text.now words.old k inside result words.new }
     {
-        let a = self.refused(Step::Scan, text.len(), words.len(), k);
-        let Answer::Done = a else {
-            return Handed {
-                answer: a,
-                job: self,
-            };
-        };
+        if let Err(why) = self.check(Step::Scan, text.len(), words.len(), k) {
+            return self.refused(why);
+        }
         let c = self.scan_chunk(text, words, k, inside);
         Handed {
             answer: Answer::Done,

@@ -1,5 +1,6 @@
 -- A name that RFC 8259 derives, compared with a path's: by its characters, and 30 exactly where a surrogate is left unpaired. By the characters of the
 -- name, two at a time where the first is a high surrogate.
+use Rattle.std.proofs.Common.{Ok}
 use mathlib.Core.Path.{◌≡◌, refl, sym, ap, ◌∙◌, subst}
 use mathlib.Core.Bool.{Bool, true, false, true≢false, not-eq-not}
 use mathlib.Core.Logic.{◌≢◌, ◌↔◌}
@@ -7,18 +8,14 @@ use mathlib.Core.List.{List, [], ◌∷◌, ◌++◌}
 use Prim.Native.Nat.{ℕ, ◌≤◌, ◌<◌}
 use native.Mathlib.Omega.{arith}
 use borrow.Author.Tests.{ne_eqb}
-use Rattle.rules.specs.Word.{pick}
 use Rattle.paths.specs.Grammar.{Letter, Rest, Name}
 use Rattle.paths.proofs.PathLaws.{range_of}
-use Rattle.paths.proofs.PlaceLaws.{pick_ind}
 use Rattle.texts.proofs.Tests.{and_false}
 use Rattle.texts.specs.Grammar.{Utf8Char, Unescaped, Short, Char, Chars}
 use Rattle.texts.specs.Nodes.{is_high, is_low, paired, characters}
-use Rattle.names.specs.Spelling.{unit_of, Spelling, spelled, wrong, with_one, spelling, same, compared, matched}
+use Rattle.names.specs.Spelling.{unit_of, Spelling, spelled, wrong, with_one, spelling, same, compared, matched, Match}
 use Rattle.names.specs.Spells.{Unit4}
 use Rattle.names.specs.Spells as Spells
-use Rattle.names.specs.declared.Match.{Match}
-use Rattle.names.specs.declared.Match.TheVariants.{Same, Different}
 use Rattle.names.proofs.Comparing.{same_exactly}
 use Rattle.names.proofs.SpellingLaws.{spelling_none}
 use Rattle.names.proofs.Spelled.{plain_one, short_one, unit_value, unit_one, unit_low, unit_half, unit_pair}
@@ -235,11 +232,11 @@ reads (Chars.char (Char.u_xxxx i j k l) (Chars.char {bs} {us} d cs)) = reads_bef
 
 -- ---- the comparison
 
-pub name_same : {raw us : List ℕ} (n : List ℕ) → Chars raw us → NoneUnpaired (characters us) → Ascii n → matched n raw ≡ pick (same (characters us) n) Same Different
+pub name_same : {raw us : List ℕ} (n : List ℕ) → Chars raw us → NoneUnpaired (characters us) → Ascii n → matched n raw ≡ Ok (same (characters us) n)
 unfolding matched
 name_same {raw} {us} n s h a = go (spelling raw) (reads s)
   where
-    go : (x : Spelling) → Reads x (characters us) → compared n x ≡ pick (same (characters us) n) Same Different
+    go : (x : Spelling) → Reads x (characters us) → compared n x ≡ Ok (same (characters us) n)
     go (spelled xs) (right f k) = rw (f n a)
     go wrong (half k) = absurd (k h)
 
@@ -247,10 +244,12 @@ by_characters : {raw us : List ℕ} (n : List ℕ) → Chars raw us → Ascii n 
 unfolding matched
 by_characters {raw} {us} n s a = go (spelling raw) (reads s)
   where
+    by : NoneUnpaired (characters us) → (b : Bool) → same (characters us) n ≡ b → ByCharacters (characters us) n (Ok b)
+    by h true e = ByCharacters.that_name h ((same_exactly (characters us) n).0 e)
+    by h false e = ByCharacters.other_name h (λ q. true≢false (sym ((same_exactly (characters us) n).1 q) ∙ e))
+
     go : (x : Spelling) → Reads x (characters us) → ByCharacters (characters us) n (compared n x)
-    go (spelled xs) (right f h) =
-        rw (f n a) (pick_ind (ByCharacters (characters us) n) (same (characters us) n) _ _
-        (λ e. ByCharacters.that_name h ((same_exactly (characters us) n).0 e)) (λ e. ByCharacters.other_name h (λ q. true≢false (sym ((same_exactly (characters us) n).1 q) ∙ e))))
+    go (spelled xs) (right f h) = rw (f n a) (by h (same (characters us) n) refl)
     go wrong (half h) = ByCharacters.unpaired h
 
 one_match : {us n : List ℕ} {q r : Match} → ByCharacters us n q → ByCharacters us n r → q ≡ r

@@ -13,7 +13,7 @@ use Rattle.rules.specs.Bytes.{Class, is, comma}
 use Rattle.rules.specs.Bits.{opener, closer, at_depth, level_bit}
 use Rattle.paths.specs.Places.{byte_in, first_at}
 use Rattle.query.specs.Items.{value_at, item_no}
-use Rattle.query.specs.declared.items.Item.TheVariants.{Other}
+use Rattle.query.specs.Item.{Other}
 use Rattle.paths.proofs.PlaceLaws.{first_at_is, first_all}
 use Rattle.texts.specs.Nodes.{deep, deep_items}
 use Rattle.jsonpath.specs.Select.{nth}

@@ -1,5 +1,6 @@
 -- The entries of an object: the items are the first whose name is the one asked for, and none is broken but for an unpaired surrogate. By the entries,
 -- cut at the commas between them and at the colon of each.
+use Rattle.std.proofs.Common.{Ok, Err}
 use mathlib.Core.Path.{◌≡◌, refl, ap, ◌∙◌}
 use mathlib.Core.Bool.{true, false}
 use mathlib.Core.List.{List, [], ◌∷◌, ◌++◌}
@@ -13,14 +14,10 @@ use Rattle.rules.specs.Bytes.{is, colon, comma}
 use Rattle.rules.specs.Bits.{quote_bit, level_bit}
 use Rattle.paths.specs.Places.{byte_in, between, first_at}
 use Rattle.rules.specs.Layout.{bit_of}
-use Rattle.names.specs.Spelling.{matched, on_match}
-use Rattle.names.specs.declared.Match.{Match}
-use Rattle.names.specs.declared.Match.TheVariants.{Same, Different}
-use Rattle.names.specs.declared.Match.TheVariants as Matches
+use Rattle.names.specs.Spelling.{matched, on_match, Match}
 use Rattle.query.specs.Items.{value_at, quoted, keyed, item_at, or_else, first_item_in}
 use Rattle.walks.specs.Ruled.{ruled}
-use Rattle.query.specs.declared.items.Item.{Item}
-use Rattle.query.specs.declared.items.Item.TheVariants.{Other, Broken}
+use Rattle.query.specs.Item.{Item, Other, Broken}
 use Rattle.query.specs.declared.types.Cause.TheVariants.{BadEscape}
 use Rattle.paths.proofs.PlaceLaws.{first_at_is, first_all}
 use Rattle.texts.specs.Grammar.{Ws, Chars, string_bytes}
@@ -120,10 +117,10 @@ module _ (text : List ℕ) (k : ℕ) where
   -- the entry that is asked for, or what the later ones come to
   chosen : (m : Match) (a : ℕ) (t : Json) (ts : Picked) (x later : Item) → Hit text (suc k) t x → Taken text (suc k) ts later
       → Taken text (suc k) (on_match m (nodes (t ∷ [])) ts bad) (or_else (on_match m x Other (Broken BadEscape a)) later)
-  chosen Same a t ts x later h o =
+  chosen (Ok true) a t ts x later h o =
       one t refl (record { place = h.place; value = h.value; is_tree = h.is_tree; is_part = rw h.is_part refl; good = h.good })
-  chosen Different a t ts x later h o = o
-  chosen Matches.BadEscape a t ts x later h o = unpaired a refl refl
+  chosen (Ok false) a t ts x later h o = o
+  chosen (Err e) a t ts x later h o = unpaired a refl refl
 
   module _ (n : List ℕ) where
     abbrev entry_of : ℕ → ℕ → Item

@@ -1,15 +1,14 @@
 -- Names that are unrepeated and have no unpaired surrogate: the first member whose name is the path's is the one that RFC 9535 selects. By the members
 -- of an object.
+use Rattle.std.proofs.Common.{Ok}
 use mathlib.Core.Path.{◌≡◌, refl, sym, ◌∙◌}
 use mathlib.Core.Bool.{Bool, true, false, not-eq-not}
 use mathlib.Core.List.{List, [], ◌∷◌}
 use Prim.Native.Nat.{ℕ, zero, suc, ◌+◌}
 use lib.ListN.{length}
-use Rattle.rules.specs.Word.{pick}
 use Rattle.paths.specs.Grammar.{Selector, name, number}
 use Rattle.texts.specs.Nodes.{characters, Json, scalar, array, object, Items, no_items, item, Fields, no_fields, field}
 use Rattle.names.specs.Spelling.{same, matched, on_match}
-use Rattle.names.specs.declared.Match.TheVariants.{Same, Different}
 use Rattle.names.proofs.Comparing.{same_exactly}
 use Rattle.jsonpath.specs.Select.{keep_if, named, nth, children, Fresh, Fair, FairItems, FairFields}
 use Rattle.texts.proofs.Padded.{Bare, Entry, Entries, entry_bytes, bare_tree, pad_fields}
@@ -39,7 +38,7 @@ unfolding named
 fresh_none us n no_fields e h = refl
 fresh_none us n (field raw vs t fs) e h = rw ((not-eq-not {a = same vs n} {b = false}).0 (λ z. h.0 (e ∙ sym ((same_exactly vs n).0 z)))) (fresh_none us n fs e h.1)
 
-kept : (c : Bool) (t : Json) (later : Picked) (ts : List Json) → later ≡ nodes ts → (c ≡ true → ts ≡ []) → on_match (pick c Same Different) (nodes (t ∷ [])) later bad ≡ nodes (keep_if c t ts)
+kept : (c : Bool) (t : Json) (later : Picked) (ts : List Json) → later ≡ nodes ts → (c ≡ true → ts ≡ []) → on_match (Ok c) (nodes (t ∷ [])) later bad ≡ nodes (keep_if c t ts)
 kept true t later ts e f = rw (f refl)
 kept false t later ts e f = e
 

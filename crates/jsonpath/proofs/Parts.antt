@@ -9,7 +9,7 @@ use lib.ListN.{length, get_or, length-append}
 use Rattle.rules.specs.Layout.{listed}
 use Rattle.paths.specs.Places.{byte_in, past_last}
 use Rattle.query.specs.Items.{is_blank, solid, trim_start, trim_end, value_at}
-use Rattle.query.specs.declared.items.Item.TheVariants.{Found}
+use Rattle.query.specs.Item.{Found}
 use Rattle.paths.proofs.PlaceLaws.{first_at_is, first_all, last_at}
 use Rattle.texts.specs.Grammar.{Blank, Ws}
 use Rattle.jsonpath.proofs.Trace.{Seg, Never, never_more}

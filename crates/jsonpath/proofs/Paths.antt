@@ -19,9 +19,8 @@ use Rattle.walks.specs.Ruled.{ruled}
 use Rattle.paths.specs.Path.{Reading, good, bad, read_path, large}
 use Rattle.query.specs.Walk.{on_found, walk_from, walk}
 use Rattle.query.specs.Answers.{refusal_number, number_of, part_of, after_reading, answer_of}
-use Rattle.query.specs.declared.items.Item.TheVariants as Items
-use Rattle.query.specs.declared.types.Answer.{Answer}
-use Rattle.query.specs.declared.types.Answer.TheVariants.{Found, Refused}
+use Rattle.query.specs.Item as Items
+use Rattle.query.specs.Answer.{Answer, Found, Refused}
 use Rattle.query.specs.declared.types.Refusal.{Refusal}
 use Rattle.query.specs.declared.types.Refusal.TheVariants.{EmptyRecord, LongRecord, BadLevels, BadBuffer, BadPath, TooLarge, TooDeep}
 use Rattle.paths.proofs.PlaceLaws.{pick_ind}

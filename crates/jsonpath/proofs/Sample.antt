@@ -14,8 +14,7 @@ use Rattle.paths.specs.Grammar.{Selector, name, number, Letter, Rest, Name, More
 use Rattle.paths.specs.Path.{large}
 use Rattle.names.specs.Spelling.{same}
 use Rattle.query.specs.Answers.{answer_of}
-use Rattle.query.specs.declared.types.Answer.{Answer}
-use Rattle.query.specs.declared.types.Answer.TheVariants.{Found}
+use Rattle.query.specs.Answer.{Answer, Found}
 use Rattle.jsonpath.proofs.Paths.{claim}
 use Rattle.texts.specs.Texts.{bytes}
 use Rattle.jsonpath.specs.Demand2.{Obeys, root, AskedWith, Selects}

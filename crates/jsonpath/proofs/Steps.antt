@@ -18,9 +18,8 @@ use Rattle.query.specs.Items.{solid, trim_start, item_at, first_item, item_no}
 use Rattle.walks.specs.Ruled.{ruled}
 use Rattle.query.specs.Walk.{of_item, framed, filled, name_step, number_step, step_by}
 use Rattle.query.specs.Answers.{refusal_number}
-use Rattle.query.specs.declared.items.Item.{Item}
-use Rattle.query.specs.declared.types.Answer.{Answer}
-use Rattle.query.specs.declared.types.Answer.TheVariants.{Found, Refused}
+use Rattle.query.specs.Item.{Item}
+use Rattle.query.specs.Answer.{Answer, Found, Refused}
 use Rattle.query.specs.declared.types.Refusal.{Refusal}
 use Rattle.query.specs.declared.types.Refusal.TheVariants.{Missed, Broken}
 use Rattle.query.specs.declared.types.Cause.TheVariants.{BadEscape}

@@ -9,8 +9,7 @@ use native.Mathlib.Omega.{arith}
 use lib.ListN.{length, get_or, length-append}
 use Rattle.paths.specs.Places.{byte_in}
 use Rattle.query.specs.Items.{value_at}
-use Rattle.query.specs.declared.items.Item.{Item}
-use Rattle.query.specs.declared.items.Item.TheVariants.{Found, Other, Broken}
+use Rattle.query.specs.Item.{Item, Found, Other, Broken}
 use Rattle.query.specs.declared.types.Cause.TheVariants.{BadEscape}
 use Rattle.texts.specs.Grammar.{Number}
 use Rattle.texts.specs.Nodes.{Json, deep}

@@ -5,8 +5,7 @@ use Rattle.rules.specs.Layout.{Promise}
 use Rattle.paths.specs.Grammar.{Selector, Path}
 use Rattle.paths.specs.Path.{large}
 use Rattle.query.specs.Answers.{refusal_number, number_of, part_of, answer_of}
-use Rattle.query.specs.declared.types.Answer.{Answer}
-use Rattle.query.specs.declared.types.Answer.TheVariants.{Found, Refused}
+use Rattle.query.specs.Answer.{Answer, Found, Refused}
 use Rattle.query.specs.declared.types.Refusal.{Refusal}
 use Rattle.texts.specs.Grammar.{In, Text}
 use Rattle.texts.specs.Nodes.{Json, value_of, first_of, bytes_of, deep}

@@ -1,9 +1,7 @@
 -- What a path of RFC 9535 selects from the values of a text.
-use Rattle.std.specs.Prelude.{◌≡◌, Bool, true, false, ◌||◌, ◌≢◌, List, [], ◌∷◌, ◌++◌, ℕ, zero, suc}
+use Rattle.std.specs.Prelude.{◌≡◌, Bool, true, false, ◌||◌, ◌≢◌, List, [], ◌∷◌, ◌++◌, ℕ, zero, suc, Ok, Err}
 use Rattle.paths.specs.Grammar.{Selector, name, number}
-use Rattle.names.specs.Spelling.{same}
-use Rattle.names.specs.declared.Match.{Match}
-use Rattle.names.specs.declared.Match.TheVariants.{Same, Different, BadEscape}
+use Rattle.names.specs.Spelling.{same, no_escape, Match}
 use Rattle.texts.specs.Nodes.{is_high, is_low, Json, scalar, array, object, Items, no_items, item, Fields, no_fields, field}
 
 -- ---- RFC 9535: what a selector takes from a node
@@ -76,6 +74,6 @@ abbrev mutual
 -- ---- a name of those characters, for a path's name: "names compare by their characters"; 30 for "an unpaired surrogate"
 
 pub data ByCharacters (us n : List ℕ) : Match → Type 0 where
-  that_name : NoneUnpaired us → us ≡ n → ByCharacters us n Same
-  other_name : NoneUnpaired us → us ≢ n → ByCharacters us n Different
-  unpaired : (NoneUnpaired us → ⊥) → ByCharacters us n BadEscape
+  that_name : NoneUnpaired us → us ≡ n → ByCharacters us n (Ok true)
+  other_name : NoneUnpaired us → us ≢ n → ByCharacters us n (Ok false)
+  unpaired : (NoneUnpaired us → ⊥) → ByCharacters us n (Err no_escape)

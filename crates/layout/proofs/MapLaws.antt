@@ -1,20 +1,17 @@
 -- A word of a bitmap lies among the lent words, which are few.
-use Prim.Native.Nat.{ℕ, ◌+◌, ◌*◌, ◌≤◌, ◌<◌}
-use mathlib.Core.Path.{◌≡◌, subst}
+use Rattle.std.proofs.Common.{ℕ, ◌+◌, ◌*◌, ◌≤◌, ◌<◌, arith}
 use native.Mathlib.Nat.{mul-le-mul}
-use native.Mathlib.Omega.{arith}
 use Rattle.rules.specs.Layout.{address}
 use Rattle.rules.proofs.LayoutLaws.{address_lt}
 use Rattle.layout.specs.declared.Map.{Map}
+use Rattle.layout.specs.declared.Shape.{Shape}
 use Rattle.layout.specs.Maps.{mapped, InMap}
 
-module _ {levels width w : ℕ} {m : Map} (r : InMap levels width m w) where
-  pub map_few : (2 + 2 * levels) * width ≤ 8912896
-  map_few = let few : 2 + 2 * levels ≤ 34 = omega (arith, r.few) in mul-le-mul few r.narrow
+module _ (s : Shape) {m : Map} {w : ℕ} (r : InMap s.levels s.width m w) where
+  pub map_in : address s.levels s.width (mapped m) w < (2 + 2 * s.levels) * s.width
+  map_in = address_lt s.levels s.width (mapped m) w r.has r.inside
 
-  pub map_in : address levels width (mapped m) w < (2 + 2 * levels) * width
-  map_in = address_lt levels width (mapped m) w r.has r.inside
-
-  -- the same of the bitmap that was matched
-  pub map_as : {n : Map} → m ≡ n → InMap levels width n w
-  map_as e = subst (λ (x : Map). InMap levels width x w) e r
+  pub map_small : address s.levels s.width (mapped m) w < 8912896
+  map_small =
+      let few : 2 + 2 * s.levels ≤ 34 = omega (arith, s.few) in
+      omega (arith, map_in, mul-le-mul few s.narrow)

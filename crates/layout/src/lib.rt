@@ -28,42 +28,60 @@ pub fn size_of(levels: usize, n: usize) -> usize
     (2 + 2 * levels) * width_of(n)
 }
 
-fn address_of(levels: usize, width: usize, m: Map, w: usize) -> usize
-    requires { InMap levels width m w }
-    ensures { result ≡ address levels width (mapped m) w }
-{
-    match m {
-        Map::Quotes => w,
-        Map::Mask => width + w,
-        Map::Colons(k) => 2 * k * width + w,
-        Map::Commas(k) => (2 * k + 1) * width + w,
+// How many levels the lent words have, and how many words each bitmap: within the limits, so that every address fits.
+#[derive(Clone, Copy)]
+pub struct Shape {
+    pub levels: usize,
+    pub width: usize,
+    pub ghost few: { levels ≤ 16 },
+    pub ghost narrow: { width ≤ 262144 },
+}
+
+impl Shape {
+    // Of words for a record of n bytes.
+    pub fn new(levels: usize, n: usize) -> Shape
+        requires { (levels ≤ 16) × (n ≤ 16777216) }
+        ensures levels_kept { result.levels ≡ levels }
+        ensures wide { result.width ≡ width_of n }
+    {
+        Shape {
+            levels,
+            width: width_of(n),
+        }
     }
-}
 
-pub fn get_word(words: &[u64], levels: usize, width: usize, m: Map, w: usize) -> u64
-    requires in_map { InMap levels width m w }
-    requires words_len { length words.now ≡ (2 + 2 * levels) * width }
-    ensures { result ≡ cell words.now levels width (mapped m) w }
-{
-    let at = address_of(levels, width, m, w);
-    words[at]
-}
+    fn address(self, m: Map, w: usize) -> usize
+        requires { InMap self.levels self.width m w }
+        ensures { result ≡ address self.levels self.width (mapped m) w }
+    {
+        match m {
+            Map::Quotes => w,
+            Map::Mask => self.width + w,
+            Map::Colons(k) => 2 * k * self.width + w,
+            Map::Commas(k) => (2 * k + 1) * self.width + w,
+        }
+    }
 
-pub fn put_word(words: &mut [u64], levels: usize, width: usize, m: Map, w: usize, v: u64)
-    requires in_map { InMap levels width m w }
-    requires words_len { length words.old ≡ (2 + 2 * levels) * width }
-    ensures { words.new ≡ set words.old (address levels width (mapped m) w) v }
-{
-    let at = address_of(levels, width, m, w);
-    words[at] = v;
+    // Word w of a bitmap.
+    pub fn word(self, words: &[u64], m: Map, w: usize) -> u64
+        requires in_map { InMap self.levels self.width m w }
+        requires words_len { length words.now ≡ (2 + 2 * self.levels) * self.width }
+        ensures { result ≡ cell words.now self.levels self.width (mapped m) w }
+    {
+        words[self.address(m, w)]
+    }
+
+    pub fn put(self, words: &mut [u64], m: Map, w: usize, v: u64)
+        requires in_map { InMap self.levels self.width m w }
+        requires words_len { length words.old ≡ (2 + 2 * self.levels) * self.width }
+        ensures { words.new ≡ set words.old (address self.levels self.width (mapped m) w) v }
+    {
+        words[self.address(m, w)] = v;
+    }
 }
 
 pub fn zero_words(words: &mut [u64])
     ensures { words.new ≡ replicate (length words.old) 0 }
 {
-    let mut i = 0;
-    while i < words.len() {
-        words[i] = 0;
-        i += 1;
-    }
+    words.fill(0);
 }

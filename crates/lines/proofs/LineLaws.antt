@@ -1,21 +1,26 @@
 -- The lines from a place on, case by case: none behind the end, a blank one passed over, else the first is the one that begins there. How many lines
 -- are allowed for does not matter, since each takes a byte.
-use Prim.Native.Nat.{ℕ, zero, suc, ◌+◌, ◌≤◌, ◌<◌}
+use Prim.Native.Nat.{ℕ, zero, suc, ◌+◌, ◌-◌, ◌≤◌, ◌<◌}
 use mathlib.Core.Path.{◌≡◌, refl, sym, ap, ◌∙◌}
-use mathlib.Core.Bool.{Bool, true, false, not, true≢false}
+use mathlib.Core.Bool.{Bool, true, false, not, ◌&&◌, true≢false}
 use mathlib.Core.List.{List, [], ◌∷◌}
 use native.Mathlib.Omega.{arith}
 use native.Mathlib.Decide.{dec_lt}
 use native.Mathlib.Nat.{lt_of_not-le}
-use lib.ListN.{length}
+use lib.ListN.{length, get_or, take, drop, length-drop}
+use lib.Seq.{drop-cons}
 use lib.Dec.{ltb}
 use borrow.Author.Tests.{lt-ltb, le-ltb}
 use Rattle.rules.proofs.Booleans.{impossible}
-use Rattle.paths.proofs.PlaceLaws.{first_none, first_here, first_next, first_ge, first_le}
+use Rattle.paths.proofs.PlaceLaws.{first_none, first_here, first_next, first_ge, first_le, first_at_is, first_all}
 use Rattle.paths.specs.Places.{byte_in}
-use Rattle.query.specs.Items.{solid}
-use Rattle.lines.specs.Lines.{Entry, feed_at, line_end, is_blank_line, unless_blank, lines_in, lines_from, head_line, line_from}
-use Rattle.lines.specs.declared.Line.TheVariants.{At, End}
+use Rattle.query.specs.Items.{is_blank, solid}
+use Rattle.memchr.specs.Find.{Nowhere, NoneBefore, Passes, is_byte}
+use Rattle.std.specs.List.{list_all}
+use Rattle.std.specs.declared.ops.Range.{Range}
+use Rattle.std.proofs.lemmas.Bool.{false_from_ne_true}
+use Rattle.std.proofs.lemmas.List.{take_rest, get_or-drop}
+use Rattle.lines.specs.Lines.{Entry, feed_at, line_end, is_blank_line, unless_blank, lines_in, lines_from, head_line, line_from, At, End}
 
 -- ---- blank or not, byte by byte
 
@@ -31,6 +36,55 @@ module _ (text : List ℕ) where
   pub blank_next : (a e : ℕ) → a < e → solid (byte_in text) a ≡ false → is_blank_line text a e ≡ is_blank_line text (a + 1) e
   unfolding is_blank_line
   blank_next a e l h = ap (λ (p : ℕ). not (ltb p e)) (first_next (solid (byte_in text)) a e l h)
+
+  blank_part : (c a : ℕ) → a + c ≤ length text → list_all is_blank (take c (drop a text)) ≡ is_blank_line text a (a + c)
+  unfolding byte_in
+  blank_part zero a l = sym (blank_none a (a + 0) (omega arith))
+  blank_part (suc c) a l =
+      rw (drop-cons text a 0 (omega arith)) (go (is_blank (get_or text a 0)) refl (blank_part c (suc a) (omega arith)))
+    where
+      more : suc a + c ≡ a + suc c
+      more = omega arith
+
+      one : suc a ≡ a + 1
+      one = omega arith
+
+      go : (b : Bool) → is_blank (get_or text a 0) ≡ b → list_all is_blank (take c (drop (suc a) text)) ≡ is_blank_line text (suc a) (suc a + c)
+          → (is_blank (get_or text a 0) && list_all is_blank (take c (drop (suc a) text))) ≡ is_blank_line text a (a + suc c)
+      go true e later = rw e (later ∙ rw (more, one) (sym (blank_next a (a + suc c) (omega arith) (ap not e))))
+      go false e later = rw e (sym (blank_solid a (a + suc c) (omega arith) (ap not e)))
+
+  -- the bytes of a line are blank exactly where it is a blank line
+  pub blank_bytes : (a e : ℕ) → a ≤ e → e ≤ length text → list_all is_blank (take (e - a) (drop a text)) ≡ is_blank_line text a e
+  blank_bytes a e l m =
+      let at : a + (e - a) ≡ e = omega arith in
+      blank_part (e - a) a (omega arith) ∙ ap (is_blank_line text a) at
+
+-- ---- where a line ends, by a search over what lies from a on
+
+module _ (text : List ℕ) (a : ℕ) (l : a ≤ length text) where
+  abbrev rest : List ℕ
+  rest = take (length text - a) (drop a text)
+
+  rest_long : length rest ≡ length text - a
+  rest_long = ap length (take_rest text a) ∙ length-drop a text
+
+  same : (k : ℕ) → is_byte 10 (get_or rest k 0) ≡ feed_at text (a + k)
+  unfolding feed_at byte_in
+  same k = rw (take_rest text a, get_or-drop a text k 0)
+
+  missed : (i k : ℕ) → Nowhere (Passes (is_byte 10) rest) 0 i → a ≤ k → k < a + i → feed_at text k ≡ false
+  missed i k n p q =
+      let at : a + (k - a) ≡ k = omega arith in
+      false_from_ne_true (feed_at text k) (λ t. n (k - a) (omega arith) (omega arith) (same (k - a) ∙ ap (feed_at text) at ∙ t))
+
+  pub end_found : (i : ℕ) → NoneBefore (Passes (is_byte 10) rest) 0 (length rest) i × Passes (is_byte 10) rest i → a + i ≡ line_end text a
+  unfolding line_end
+  end_found i h = sym (first_at_is (feed_at text) a (a + i) (length text) (omega arith) (omega (arith, h.0.high, rest_long)) (λ k p q. missed i k h.0.before p q) (sym (same i) ∙ h.1))
+
+  pub end_unfound : Nowhere (Passes (is_byte 10) rest) 0 (length rest) → length text ≡ line_end text a
+  unfolding line_end
+  end_unfound n = sym (first_all (feed_at text) a (length text) l (λ k p q. missed (length rest) k n p (omega (arith, rest_long))))
 
 -- ---- line by line
 
@@ -76,13 +130,19 @@ module _ (text : List ℕ) where
   unfolding line_from
   next_none a l = ap head_line (none_behind a l)
 
-  pub next_passed : (a e : ℕ) → a < length text → e ≡ line_end text a → is_blank_line text a e ≡ true → line_from text a ≡ line_from text (e + 1)
-  unfolding line_from
-  next_passed a e l q b = rw q (ap head_line (blank_passed a l (rw (← q) b)))
+  -- a line that is blank, or not, as its bytes are
+  blank_is : (a e : ℕ) → a < length text → e ≡ line_end text a → {b : Bool} → list_all is_blank (take (e - a) (drop a text)) ≡ b → is_blank_line text a (line_end text a) ≡ b
+  blank_is a e l q t =
+      let o = end_bounds a (omega arith) in
+      ap (is_blank_line text a) (sym q) ∙ sym (blank_bytes text a e (omega (arith, o, q)) (omega (arith, o, q))) ∙ t
 
-  pub next_here : (a e : ℕ) → a < length text → e ≡ line_end text a → is_blank_line text a e ≡ false → line_from text a ≡ At a e
+  pub next_passed : (a e : ℕ) → a < length text → e ≡ line_end text a → list_all is_blank (take (e - a) (drop a text)) ≡ true → line_from text a ≡ line_from text (e + 1)
   unfolding line_from
-  next_here a e l q b = rw q (ap head_line (line_here a l (rw (← q) b)))
+  next_passed a e l q b = rw q (ap head_line (blank_passed a l (blank_is a e l q b)))
+
+  pub next_here : (a e : ℕ) → a < length text → e ≡ line_end text a → list_all is_blank (take (e - a) (drop a text)) ≡ false → line_from text a ≡ At a e
+  unfolding line_from
+  next_here a e l q b = rw q (ap head_line (line_here a l (blank_is a e l q b)))
 
   -- the line that is next from a on: it is listed, and behind it are the others
   pub record Listed (a s e : ℕ) : Type 0 where
@@ -119,8 +179,9 @@ module _ (text : List ℕ) where
       go (none z) = let w = sym (ap head_line z) ∙ q in impossible (cc)
       go (one t f d) =
           let w : At t f ≡ At s e = sym (ap head_line d.listed) ∙ q in
-          let x : t ≡ s = cc in
-          let y : f ≡ e = cc in
+          let r : ◌≡◌ {A = Range ℕ} (record { start = t; end = f }) (record { start = s; end = e }) = cc in
+          let x : t ≡ s = ap (λ (p : Range ℕ). p.start) r in
+          let y : f ≡ e = ap (λ (p : Range ℕ). p.end) r in
           rw (← x, ← y) d
 
   pub next_end : (a : ℕ) → line_from text a ≡ End → lines_from text a ≡ []

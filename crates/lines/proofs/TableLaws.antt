@@ -11,7 +11,7 @@ use Rattle.lines.specs.Tables.{entries_of, entries, table_with, table_answer, ta
 use Rattle.lines.proofs.LineLaws.{Listed}
 use Rattle.lines.specs.declared.TableRefusal.{TableRefusal}
 use Rattle.lines.specs.declared.TableRefusal.TheVariants.{Empty, TooLong, ManyLines}
-use Rattle.lines.specs.declared.Tabled.TheVariants as tabled
+use Rattle.lines.specs.Tables as tabled
 
 pub length_entries : (es : List Entry) → length (entries es) ≡ 2 * length es
 unfolding entries

@@ -1,13 +1,12 @@
 -- What a closed run over some bytes answers and leaves is what their first fault says, or that they have none; and what is answered in the front of
 -- the words, check by check.
-use Prim.Native.Nat.{ℕ, ◌-◌, ◌≤◌, ◌<◌}
+use Prim.Native.Nat.{ℕ, ◌≤◌}
 use mathlib.Core.Path.{◌≡◌, refl, sym, ap, ap₂, ◌∙◌}
-use mathlib.Core.Bool.{true, false, ◌||◌}
+use mathlib.Core.Bool.{true, false}
 use mathlib.Core.List.{List, [], ◌++◌}
 use native.Mathlib.Omega.{arith}
-use lib.ListN.{length, take, drop}
-use lib.Dec.{eqb, ltb}
-use borrow.Author.Tests.{eq-eqb, ne_eqb, lt-ltb, le-ltb}
+use lib.ListN.{length, drop}
+use borrow.Author.Tests.{eq-eqb, ne_eqb, le-ltb}
 use Rattle.rules.specs.Faults.{Verdict, sound, faulty, fault_of}
 use Rattle.rules.specs.Layout.{width_of, size_of}
 use Rattle.chunks.specs.declared.scanning.Swept.{Swept}
@@ -16,7 +15,7 @@ use Rattle.chunks.specs.Levels.{level_words}
 use Rattle.index.specs.declared.Answer.{Answer}
 use Rattle.index.specs.declared.Answer.TheVariants.{Done, Refused, Faulty}
 use Rattle.index.specs.declared.Refusal.{Refusal}
-use Rattle.index.specs.declared.Refusal.TheVariants.{Empty, TooLong, BadLevels, BadBuffer}
+use Rattle.index.specs.declared.Refusal.TheVariants.{Empty}
 use Rattle.index.specs.declared.Fault.{Fault}
 use Rattle.index.specs.declared.Fault.TheVariants.{Closer, Opener, InString, InBracket}
 use Rattle.index.specs.Answers.{fault_number, fault_place}
@@ -28,7 +27,7 @@ use Rattle.runs.proofs.Theorems.{sound_closes, faulty_closes}
 use Rattle.runs.proofs.Whole.{whole_run}
 use Rattle.runs.proofs.Plain.{plain_steps, plain_complete}
 use Rattle.lines.specs.Jobs.{line_at, line_of, named_fault, of_verdict, verdict_words, front_checks, front_answer, front_words, numbered, line_answer, line_words, balanced, Indexable}
-use Rattle.lines.specs.declared.Line.TheVariants.{At, End}
+use Rattle.lines.specs.Lines.{End}
 use Rattle.lines.specs.declared.LineAnswer.TheVariants as line
 use Rattle.lines.proofs.FrontLaws.{made_index, balanced_sound}
 
@@ -98,21 +97,8 @@ module _ (bytes : List ℕ) (levels : ℕ) where
     unfolding front_answer front_checks
     front_empty e = left (rw (eq-eqb (length bytes) 0 e))
 
-    pub front_long : 16777216 < length bytes → Left TooLong
-    unfolding front_answer front_checks
-    front_long l = left (rw (ne_eqb (length bytes) 0 (omega arith), lt-ltb 16777216 (length bytes) l))
-
     module _ (some : 1 ≤ length bytes) (small : length bytes ≤ 16777216) where
-      pub front_levels : (eqb levels 0 || ltb 16 levels) ≡ true → Left BadLevels
-      unfolding front_answer front_checks
-      front_levels e = left (rw (ne_eqb (length bytes) 0 (omega arith), le-ltb 16777216 (length bytes) small, e))
-
       module _ (low : 1 ≤ levels) (high : levels ≤ 16) where
-        pub front_short : length words < size_of levels (length bytes) → Left BadBuffer
-        unfolding front_answer front_checks
-        front_short l =
-            left (rw (ne_eqb (length bytes) 0 (omega arith), le-ltb 16777216 (length bytes) small, ne_eqb levels 0 (omega arith), le-ltb 16 levels high, lt-ltb (length words) _ l))
-
         taken : size_of levels (length bytes) ≤ length words → front_answer bytes levels (length words) ≡ of_verdict (fault_of bytes)
         unfolding front_answer front_checks
         taken l = rw (ne_eqb (length bytes) 0 (omega arith), le-ltb 16777216 (length bytes) small, ne_eqb levels 0 (omega arith), le-ltb 16 levels high, le-ltb (length words) _ l)
@@ -134,9 +120,3 @@ module _ (text table words : List ℕ) (i levels : ℕ) where
       → (line.Refused Empty ≡ line_answer text table i levels (length words)) × (words ≡ line_words text table i levels words)
   unfolding line_of line_answer line_words
   line_nowhere e = let f = front_empty [] levels words refl in rw e (ap (numbered i) f.0, f.1)
-
-  pub line_somewhere : (s e : ℕ) → line_at (length text) table i ≡ At s e → {a : Answer} {after : List ℕ}
-      → (a ≡ front_answer (take (e - s) (drop s text)) levels (length words)) × (after ≡ front_words (take (e - s) (drop s text)) levels words)
-      → (numbered i a ≡ line_answer text table i levels (length words)) × (after ≡ line_words text table i levels words)
-  unfolding line_of line_answer line_words
-  line_somewhere s e h f = rw h (ap (numbered i) f.0, f.1)

@@ -1,5 +1,5 @@
 -- The job of one line: over its bytes alone, in the front of the words. What it answers and leaves, by the rules and not by its steps.
-use Rattle.std.specs.Prelude.{ℕ, ◌+◌, ◌*◌, ◌-◌, ◌≤◌, ◌≡◌, Bool, not, ◌&&◌, ◌||◌, List, [], ◌∷◌, ◌++◌, length, get_or, take, drop, replicate, ltb, leb, eqb}
+use Rattle.std.specs.Prelude.{ℕ, ◌+◌, ◌*◌, ◌-◌, ◌≤◌, ◌≡◌, Bool, not, ◌&&◌, ◌||◌, List, [], ◌∷◌, ◌++◌, length, get_or, take, drop, replicate, ltb, leb, eqb, Some, None}
 use Rattle.rules.specs.Word.{pick}
 use Rattle.rules.specs.Faults.{Verdict, sound, faulty, fault_of}
 use Rattle.rules.specs.Layout.{size_of, index}
@@ -12,8 +12,7 @@ use Rattle.index.specs.declared.Answer.TheVariants.{Done, Refused, Faulty}
 use Rattle.index.specs.Answers.{refusal_number, fault_number, fault_place, Check, checked}
 use Rattle.index.specs.Closing.{unless_refused}
 use Rattle.lines.specs.Tables.{entries_of}
-use Rattle.lines.specs.declared.Line.{Line}
-use Rattle.lines.specs.declared.Line.TheVariants.{At, End}
+use Rattle.lines.specs.Lines.{Line, At, End}
 use Rattle.lines.specs.declared.LineAnswer.{LineAnswer}
 use Rattle.lines.specs.declared.LineAnswer.TheVariants as line
 
@@ -33,8 +32,8 @@ line_at n table i =
 
 -- the bytes from its start to its end, "end not included"; a line that lies nowhere is empty
 abbrev pub bytes_at : List ℕ → Line → List ℕ
-bytes_at text (At start end) = take (end - start) (drop start text)
-bytes_at text End = []
+bytes_at text (Some l) = take (l.end - l.start) (drop l.start text)
+bytes_at text None = []
 
 -- the line with number i of a table
 unfoldable pub line_of : List ℕ → List ℕ → ℕ → List ℕ

@@ -1,71 +1,46 @@
 // Where a line ends, and the next line.
-ghost use Rattle.std.specs.Prelude.{◌≡◌, false, ◌≤◌, ◌<◌, length};
-ghost use Rattle.lines.specs.Lines.{line_end, is_blank_line, line_from};
+ghost use Rattle.std.specs.Prelude.{◌≡◌, ◌<◌, ◌≤◌, length, IfSome};
+ghost use Rattle.std.specs.List.{list_all};
+ghost use Rattle.query.specs.Items.{is_blank};
+ghost use Rattle.lines.specs.Lines.{line_end, line_from};
 
-use crate::Line;
-use names::any_of;
+use memchr::memchr;
 use query::blanks::is_blank;
+use std::ops::Range;
 
-// The first LF from a on, or the text's end, byte by byte.
-fn next_feed(text: &[u8], a: usize) -> usize
-    requires { a ≤ length text.now }
-    ensures { result ≡ line_end text.now a }
-{
-    let mut i = a;
-    while i < text.len() {
-        if text[i] == 10 {
-            return i;
-        }
-        i += 1;
-    }
-    i
-}
-
-// The same, 16 bytes at a time as long as no LF is among them.
+// The first LF from a on, or the text's end.
 fn line_end(text: &[u8], a: usize) -> usize
     requires { a ≤ length text.now }
-    ensures { result ≡ line_end text.now a }
+    ensures value { result ≡ line_end text.now a }
+    ensures within { (a ≤ result) × (result ≤ length text.now) }
 {
-    let mut at = a;
-    while 16 <= text.len() - at {
-        if any_of(text, at, 10) {
-            return next_feed(text, at);
-        }
-        at += 16;
+    match memchr(b'\n', &text[a..]) {
+        Some(i) => a + i,
+        None => text.len(),
     }
-    next_feed(text, at)
 }
 
-// Nothing but blanks from a to e.
-fn is_blank_line(text: &[u8], a: usize, e: usize) -> bool
-    requires { (a ≤ e) × (e ≤ length text.now) }
-    ensures { result ≡ is_blank_line text.now a e }
+// Nothing but blanks.
+fn is_blank_line(line: &[u8]) -> bool
+    ensures { result ≡ list_all is_blank line.now }
 {
-    let mut i = a;
-    while i < e {
-        if !is_blank(text[i]) {
-            return false;
-        }
-        i += 1;
-    }
-    true
+    line.iter().all(|&b| is_blank(b))
 }
 
-// The first line that is not blank, of those that begin at `from` or behind it, where one is taken to begin at `from`.
-pub fn next_line(text: &[u8], from: usize) -> Line
-    ensures { result ≡ line_from text.now from }
+// The first line that is not blank, of those that begin at `from` or behind it, where one is taken to begin at `from`. Its end is not
+// included. (A `while`: it goes from a line's end to the next, and by no range.)
+pub fn next_line(text: &[u8], from: usize) -> Option<Range<usize>>
+    ensures value { result ≡ line_from text.now from }
+    ensures within { IfSome result (λ line. (from ≤ line.start) × (line.start < line.end) × (line.end ≤ length text.now)) }
 {
     let mut at = from;
     while at < text.len() {
         let end = line_end(text, at);
         let behind = end + 1;
-        if !is_blank_line(text, at, end) {
-            return Line::At {
-                start: at,
-                end: end,
-            };
+        if !is_blank_line(&text[at..end]) {
+            return Some(at..end);
         }
         at = behind;
     }
-    Line::End
+    None
 }

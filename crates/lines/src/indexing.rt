@@ -1,14 +1,16 @@
 // One line indexed: a job of one chunk over its own bytes, in the front of the words.
-ghost use Rattle.std.specs.Prelude.{◌≡◌, ◌<◌, length};
+ghost use Rattle.std.specs.Prelude.{◌≡◌, ◌<◌, ◌≤◌, length, IfSome};
 ghost use Rattle.rules.specs.Faults.{fault_of};
 ghost use Rattle.lines.specs.Jobs.{line_at, line_number, line_place, told_line, of_verdict, verdict_words, front_answer, front_words, line_answer, line_words, balanced, Indexable};
 
-use crate::{Line, LineAnswer};
+use crate::LineAnswer;
 use blocks::swing::Swing;
+use chunks::Span;
 use chunks::levelling::level_words;
 use chunks::scanning::scan_words;
 use index::{Answer, Refusal};
 use layout::{size_of, width_of};
+use std::ops::Range;
 
 impl LineAnswer {
     pub fn number(self) -> u64
@@ -26,8 +28,7 @@ impl LineAnswer {
         ensures { result ≡ line_place self }
     {
         match self {
-            LineAnswer::Done => 0,
-            LineAnswer::Refused(_) => 0,
+            LineAnswer::Done | LineAnswer::Refused(_) => 0,
             LineAnswer::Faulty { fault, line: _ } => fault.place(),
         }
     }
@@ -37,27 +38,18 @@ impl LineAnswer {
         ensures { result ≡ told_line self }
     {
         match self {
-            LineAnswer::Done => 0,
-            LineAnswer::Refused(_) => 0,
+            LineAnswer::Done | LineAnswer::Refused(_) => 0,
             LineAnswer::Faulty { fault: _, line } => line,
         }
     }
 }
 
 // Whether a scan of all the words found no fault: no string and no bracket is open behind them, and the depth stayed in bounds.
+#[tactic(auto, unfolding(crate::specs::Jobs::balanced))]
 fn is_balanced(inside: bool, swing: Swing) -> bool
     ensures { result ≡ balanced inside swing }
 {
-    if inside {
-        return false;
-    }
-    if 0 < swing.dip {
-        return false;
-    }
-    if 64 < swing.peak {
-        return false;
-    }
-    swing.up == swing.down
+    !inside && swing.dip == 0 && swing.peak <= 64 && swing.up == swing.down
 }
 
 // All words of a line. The steps of a job of one chunk, without the job: it would be handed on by copies longer than most lines. Only a line
@@ -67,16 +59,20 @@ fn make_index(line: &[u8], words: &mut [u64], levels: usize) -> Answer
     ensures value { result ≡ of_verdict (fault_of line.now) }
     ensures words_after { words.new ≡ verdict_words (fault_of line.now) line.now levels }
 {
-    let width = width_of(line.len());
-    let swept = scan_words(line, words, levels, 0, width, false);
+    let all = Span {
+        from: 0,
+        to: width_of(line.len()),
+    };
+    let swept = scan_words(line, words, levels, all, false);
     if is_balanced(swept.inside, swept.swing) {
-        level_words(line, words, levels, 0, width, 0);
+        level_words(line, words, levels, all, 0);
         return Answer::Done;
     }
     whole::plain(line, words, levels, &[0usize; 0])
 }
 
 // The same in the front of the words, as far as a line can be indexed there.
+#[tactic(auto, unfolding(crate::specs::Jobs::front_answer, crate::specs::Jobs::front_checks, crate::specs::Jobs::front_words))]
 fn index_front(line: &[u8], words: &mut [u64], levels: usize) -> Answer
     ensures value { result ≡ front_answer line.now levels (length words.old) }
     ensures words_after { words.new ≡ front_words line.now levels words.old }
@@ -89,10 +85,7 @@ fn index_front(line: &[u8], words: &mut [u64], levels: usize) -> Answer
     if 16777216 < n {
         return Answer::Refused(Refusal::TooLong);
     }
-    if levels == 0 {
-        return Answer::Refused(Refusal::BadLevels);
-    }
-    if 16 < levels {
+    if levels == 0 || 16 < levels {
         return Answer::Refused(Refusal::BadLevels);
     }
     let size = size_of(levels, n);
@@ -103,27 +96,24 @@ fn index_front(line: &[u8], words: &mut [u64], levels: usize) -> Answer
 }
 
 // Where the line with number i lies in a text of n bytes, if it does.
-fn line_at(n: usize, table: &[usize], i: usize) -> Line
-    ensures { result ≡ line_at n table.now i }
+#[tactic(auto, unfolding(crate::specs::Jobs::line_at))]
+fn line_at(n: usize, table: &[usize], i: usize) -> Option<Range<usize>>
+    ensures value { result ≡ line_at n table.now i }
+    ensures within { IfSome result (λ line. (line.start ≤ line.end) × (line.end ≤ n)) }
 {
     if table.len() / 2 <= i {
-        return Line::End;
+        return None;
     }
     let start = table[2 * i];
     let end = table[2 * i + 1];
-    if end < start {
-        return Line::End;
+    if end < start || n < end {
+        return None;
     }
-    if n < end {
-        return Line::End;
-    }
-    Line::At {
-        start: start,
-        end: end,
-    }
+    Some(start..end)
 }
 
 // Indexes the line with number i of a table: its bytes alone, in the front of the words.
+#[tactic(auto, unfolding(crate::specs::Jobs::line_answer, crate::specs::Jobs::line_words, crate::specs::Jobs::line_of))]
 pub fn index_line(
     text: &[u8],
     table: &[usize],
@@ -134,17 +124,12 @@ pub fn index_line(
     ensures value { result ≡ line_answer text.now table.now i levels (length words.old) }
     ensures words_after { words.new ≡ line_words text.now table.now i levels words.old }
 {
-    let found = line_at(text.len(), table, i);
-    let Line::At { start, end } = found else {
+    let Some(found) = line_at(text.len(), table, i) else {
         return LineAnswer::Refused(Refusal::Empty);
     };
-    let answer = index_front(&text[start..end], words, levels);
-    match answer {
+    match index_front(&text[found.start..found.end], words, levels) {
         Answer::Done => LineAnswer::Done,
         Answer::Refused(why) => LineAnswer::Refused(why),
-        Answer::Faulty(fault) => LineAnswer::Faulty {
-            fault: fault,
-            line: i,
-        },
+        Answer::Faulty(fault) => LineAnswer::Faulty { fault, line: i },
     }
 }

@@ -7,29 +7,16 @@ pub mod cutting;
 pub mod indexing;
 pub mod table;
 
-// The next line that is not blank, end not included.
-#[derive(Clone, Copy)]
-pub enum Line {
-    At { start: usize, end: usize },
-    End,
-}
-
-// Why there is no table: 1, 2 and 31.
-#[derive(Clone, Copy)]
+// Why there is no table, by its number.
+#[derive(Clone, Copy, Debug, PartialEq, Eq)]
 pub enum TableRefusal {
-    Empty,
-    TooLong,
-    ManyLines,
+    Empty = 1,
+    TooLong = 2,
+    ManyLines = 31,
 }
 
-// How many lines the table has, or why it is as it was.
-#[derive(Clone, Copy)]
-pub enum Tabled {
-    Lines(usize),
-    Refused(TableRefusal),
-}
-
-// What the job of a line answers; a fault with its place in the line, and the line's number in the table.
+// What the job of a line answers; a fault with its place in the line, and the line's number in the table. Three outcomes, as `index::Answer`
+// has: a fault is an answer about the line, and no refusal of the call.
 #[derive(Clone, Copy)]
 pub enum LineAnswer {
     Done,

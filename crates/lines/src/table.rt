@@ -1,41 +1,47 @@
 // The table of a text's lines: counted first, so that a refused call changes no entry.
-ghost use Rattle.std.specs.Prelude.{◌≡◌, ◌*◌, ◌≤◌, length};
+ghost use Rattle.std.specs.Prelude.{◌≡◌, ℕ, ◌*◌, ◌≤◌, length};
 ghost use Rattle.lines.specs.Lines.{lines};
 ghost use Rattle.lines.specs.Tables.{table_number, tabled_number, tabled_count, table_with, table_answer, table_after};
 
+use crate::TableRefusal;
 use crate::cutting::next_line;
-use crate::{Line, TableRefusal, Tabled};
 
 impl TableRefusal {
     pub fn number(self) -> u64
         ensures { result ≡ table_number self }
     {
-        match self {
-            TableRefusal::Empty => 1,
-            TableRefusal::TooLong => 2,
-            TableRefusal::ManyLines => 31,
-        }
+        self as u64
     }
 }
 
-impl Tabled {
-    pub fn number(self) -> u64
-        ensures { result ≡ tabled_number self }
-    {
+// How many lines the table has, or why it is as it was: told as two numbers.
+pub trait Tabled {
+    ghost number_of: { Self → ℕ };
+
+    ghost count_of: { Self → ℕ };
+
+    fn number(self) -> u64
+        ensures { result ≡ number_of self };
+
+    // How many lines; 0 where it is refused.
+    fn count(self) -> usize
+        ensures { result ≡ count_of self };
+}
+
+impl Tabled for Result<usize, TableRefusal> {
+    ghost number_of = { tabled_number };
+
+    ghost count_of = { tabled_count };
+
+    fn number(self) -> u64 {
         match self {
-            Tabled::Lines(_) => 0,
-            Tabled::Refused(why) => why.number(),
+            Ok(_) => 0,
+            Err(why) => why.number(),
         }
     }
 
-    // How many lines; 0 where it is refused.
-    pub fn count(self) -> usize
-        ensures { result ≡ tabled_count self }
-    {
-        match self {
-            Tabled::Lines(m) => m,
-            Tabled::Refused(_) => 0,
-        }
+    fn count(self) -> usize {
+        self.unwrap_or(0)
     }
 }
 
@@ -45,50 +51,44 @@ fn count_lines(text: &[u8]) -> usize
 {
     let mut count = 0;
     let mut at = 0;
-    while at < text.len() {
-        let next = next_line(text, at);
-        let Line::At { start: _, end } = next else {
-            return count;
-        };
+    while let Some(line) = next_line(text, at) {
         count += 1;
-        at = end + 1;
+        at = line.end + 1;
     }
     count
 }
 
+// By index: no clause of `chunks_exact_mut` or `as_chunks_mut` says what the slice ends as.
 fn fill_table(text: &[u8], table: &mut [usize])
     requires { (length text.now ≤ 16777216) × (2 * length (lines text.now) ≤ length table.old) }
     ensures { table.new ≡ table_with (lines text.now) table.old }
 {
     let mut i = 0;
     let mut at = 0;
-    while at < text.len() {
-        let next = next_line(text, at);
-        let Line::At { start, end } = next else {
-            return;
-        };
-        table[i] = start;
-        table[i + 1] = end;
+    while let Some(line) = next_line(text, at) {
+        table[i] = line.start;
+        table[i + 1] = line.end;
         i += 2;
-        at = end + 1;
+        at = line.end + 1;
     }
 }
 
 // Cuts a text into its lines: the start and the end of each, two numbers of the table; those behind stay.
-pub fn cut_lines(text: &[u8], table: &mut [usize]) -> Tabled
+#[tactic(auto, unfolding(crate::specs::Tables::table_answer, crate::specs::Tables::table_after))]
+pub fn cut_lines(text: &[u8], table: &mut [usize]) -> Result<usize, TableRefusal>
     ensures value { result ≡ table_answer text.now table.old }
     ensures table_after { table.new ≡ table_after text.now table.old }
 {
-    if text.len() == 0 {
-        return Tabled::Refused(TableRefusal::Empty);
+    if text.is_empty() {
+        return Err(TableRefusal::Empty);
     }
     if 16777216 < text.len() {
-        return Tabled::Refused(TableRefusal::TooLong);
+        return Err(TableRefusal::TooLong);
     }
     let count = count_lines(text);
     if table.len() / 2 < count {
-        return Tabled::Refused(TableRefusal::ManyLines);
+        return Err(TableRefusal::ManyLines);
     }
     fill_table(text, table);
-    Tabled::Lines(count)
+    Ok(count)
 }

@@ -29,8 +29,7 @@ use Rattle.lines.specs.Jobs.{start_in, end_in, line_at, bytes_at, line_of, named
 use Rattle.lines.specs.declared.LineAnswer.{LineAnswer}
 use Rattle.lines.specs.declared.LineAnswer.TheVariants as line
 use Rattle.lines.specs.Tables.{entries_of}
-use Rattle.lines.specs.declared.Line.{Line}
-use Rattle.lines.specs.declared.Line.TheVariants.{End}
+use Rattle.lines.specs.Lines.{Line, End}
 use Rattle.lines.proofs.WhereLaws.{at_behind, at_turned, at_past, at_part}
 use Rattle.lines.proofs.VerdictLaws.{named, fault_range}
 use Rattle.paths.proofs.PlaceLaws.{pick_ind}

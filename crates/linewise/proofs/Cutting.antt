@@ -13,8 +13,7 @@ use borrow.Author.Tests.{ltb-true, lt-ltb, not-false}
 use Rattle.paths.specs.Places.{byte_in, first_at}
 use Rattle.paths.proofs.PlaceLaws.{first_ge, first_hit, first_miss, first_at_is, first_all}
 use Rattle.query.specs.Items.{solid}
-use Rattle.lines.specs.Lines.{Entry, feed_at, line_end, is_blank_line, lines, lines_from, head_line, line_from, IsLine}
-use Rattle.lines.specs.declared.Line.TheVariants.{At, End}
+use Rattle.lines.specs.Lines.{Entry, feed_at, line_end, is_blank_line, lines, lines_from, head_line, line_from, IsLine, At, End}
 use Rattle.lines.proofs.LineLaws.{here, end_bounds, none_behind, blank_passed, line_here, Listed, next_at, next_end, Next, none, one, next}
 use Rattle.linewise.specs.Cutting.{Among, Rise, LineBegins, NextLine}
 

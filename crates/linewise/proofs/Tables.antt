@@ -3,19 +3,18 @@ use Prim.Native.Nat.{ℕ, zero, suc, ◌+◌, ◌*◌, ◌-◌, ◌/◌, ◌≤�
 use mathlib.Core.Path.{◌≡◌, refl, sym, ap, ap₂, ◌∙◌, subst}
 use mathlib.Core.List.{List, [], ◌∷◌, ◌++◌, append_assoc}
 use mathlib.Core.Logic.{inl, inr}
+use Rattle.std.specs.Prelude.{Ok, Err}
 use native.Mathlib.Omega.{arith}
 use native.Mathlib.Nat.{add-zero, zero-add}
 use native.Mathlib.Decide.{ℕ_discrete, dec_lt}
 use lib.ListN.{length, get_or, take, drop, length-append, length-drop}
 use lib.Seq.{get_or_at, get_or-append-add, get_or-drop}
-use Rattle.lines.specs.Lines.{Entry, lines, IsLine}
-use Rattle.lines.specs.Tables.{tabled_number, entries_of, entries, table_with, table_answer, on_tabled, table_after}
-use Rattle.lines.specs.declared.Tabled.{Tabled}
-use Rattle.lines.specs.declared.Tabled.TheVariants as tabled
+use Rattle.lines.specs.Lines.{Entry, lines, IsLine, At}
+use Rattle.lines.specs.Tables.{tabled_number, entries_of, entries, table_with, table_answer, on_tabled, table_after, Tabled}
+use Rattle.lines.specs.Tables as tabled
 use Rattle.lines.proofs.WhereLaws.{at_part}
 use Rattle.lines.proofs.TableLaws.{length_entries, table_empty, table_long, table_many, table_made}
 use Rattle.lines.specs.Jobs.{line_at, bytes_at, line_of}
-use Rattle.lines.specs.declared.Line.TheVariants.{At}
 use Rattle.linewise.specs.Cutting.{Among, TableNumbers, EntryIs, Entered, Made}
 use Rattle.linewise.proofs.Cutting.{inside, lines_exactly}
 
@@ -83,8 +82,8 @@ module _ (text table : List ℕ) where
   table_refused other = go (table_answer text table) other
     where
       go : (t : Tabled) → (tabled_number t ≡ 0 → ⊥) → on_tabled t (table_with (lines text) table) table ≡ table
-      go (tabled.Lines k) o = absurd (o refl)
-      go (tabled.Refused r) o = refl
+      go (Ok k) o = absurd (o refl)
+      go (Err r) o = refl
 
   -- any two outcomes coincide
   pub table_one : {r q : Tabled} {a b : List ℕ} → (r ≡ table_answer text table) × (a ≡ table_after text table) → (q ≡ table_answer text table) × (b ≡ table_after text table) → (r ≡ q) × (a ≡ b)

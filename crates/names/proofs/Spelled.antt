@@ -17,11 +17,11 @@ use Rattle.paths.proofs.PlaceLaws.{pick_ind}
 use Rattle.paths.proofs.PathLaws.{range_in, range_above, range_of, both_true}
 use Rattle.texts.specs.Grammar.{Hexdig, Short}
 use Rattle.texts.specs.Nodes.{is_high, is_low, paired}
-use Rattle.names.specs.Spelling.{hex_of, is_hex, four_of, unit_of, short_of, wide, spelt, Spelling, spelled, wrong, on_spelt, with_one, spell_from, spelling, same, compared, matched}
+use Rattle.names.specs.Spelling.{hex_of, is_hex, four_of, unit_of, short_of, wide, one, spelt, Spelling, spelled, wrong, on_spelt, with_one, spell_from, spelling, same, Match, compared, matched}
 use Rattle.names.specs.Spells.{Unit4, u_xxxx, Spells, Compares}
 use Rattle.names.specs.declared.Spelt.{Spelt}
-use Rattle.names.specs.declared.Spelt.TheVariants.{One, Wrong}
-use Rattle.names.specs.declared.Match.{Match}
+use Rattle.names.specs.declared.BadEscape.{BadEscape}
+use Rattle.std.proofs.Common.{Result, Ok, Err}
 use Rattle.names.proofs.Comparing.{same_exactly}
 use Rattle.names.proofs.SpellingLaws.{spelling_none, spelling_one, spelling_wrong}
 
@@ -64,9 +64,9 @@ unit_spelt {mid} {u} (u_xxxx a b c d) = let v = unit_value (u_xxxx {bs = mid} a 
 
 pub plain_one : (b : ℕ) (bs : List ℕ) → b ≢ 0x5C → spelling (b ∷ bs) ≡ with_one b (spelling bs)
 unfolding spelt
-plain_one b bs h = spelling_one {u = b} {m = 0} b bs (rw (ne_eqb b 0x5C h))
+plain_one b bs h = spelling_one {s = record { character = b; more = 0 }} b bs (rw (ne_eqb b 0x5C h))
 
-short_spelt : {a u : ℕ} (bs : List ℕ) → Short a u → spelt (0x5C ∷ a ∷ bs) ≡ One u 1
+short_spelt : {a u : ℕ} (bs : List ℕ) → Short a u → spelt (0x5C ∷ a ∷ bs) ≡ one u 1
 unfolding spelt unit_of short_of
 short_spelt bs Short.quotation_mark = refl
 short_spelt bs Short.reverse_solidus = refl
@@ -81,7 +81,7 @@ pub short_one : {a u : ℕ} (bs : List ℕ) → Short a u → spelling (0x5C ∷
 short_one {a} bs s = spelling_one 0x5C (a ∷ bs) (short_spelt bs s)
 
 pub unit_one : {bs mid : List ℕ} {u : ℕ} → Unit4 bs u mid → is_high u ≡ false → is_low u ≡ false → spelling bs ≡ with_one u (spelling mid)
-unit_one {mid} {u} (u_xxxx a b c d) h l = spelling_one {u = u} {m = 5} 0x5C _ (unit_spelt (u_xxxx {bs = mid} a b c d) ∙ rw (h, l))
+unit_one {mid} {u} (u_xxxx a b c d) h l = spelling_one {s = record { character = u; more = 5 }} 0x5C _ (unit_spelt (u_xxxx {bs = mid} a b c d) ∙ rw (h, l))
 
 pub unit_low : {bs mid : List ℕ} {u : ℕ} → Unit4 bs u mid → is_high u ≡ false → is_low u ≡ true → spelling bs ≡ wrong
 unit_low {mid} (u_xxxx a b c d) h l = spelling_wrong 0x5C _ (unit_spelt (u_xxxx {bs = mid} a b c d) ∙ rw (h, l))
@@ -91,7 +91,7 @@ unit_half {mid} (u_xxxx a b c d) h l = spelling_wrong 0x5C _ (unit_spelt (u_xxxx
 
 pub unit_pair : {bs mid rest : List ℕ} {u v : ℕ} → Unit4 bs u mid → is_high u ≡ true → Unit4 mid v rest → is_low v ≡ true → spelling bs ≡ with_one (paired u v) (spelling rest)
 unit_pair {rest} {u} {v} (u_xxxx a b c d) h (u_xxxx e f g i) l =
-    spelling_one {u = paired u v} {m = 11} 0x5C _ (unit_spelt (u_xxxx a b c d) ∙ rw (h, (unit_value (u_xxxx {bs = rest} e f g i)).0, l))
+    spelling_one {s = record { character = paired u v; more = 11 }} 0x5C _ (unit_spelt (u_xxxx a b c d) ∙ rw (h, (unit_value (u_xxxx {bs = rest} e f g i)).0, l))
 
 spells_spelled : {bs us : List ℕ} → Spells bs us → spelling bs ≡ spelled us
 spells_spelled Spells.none = spelling_none
@@ -155,9 +155,9 @@ short_derived b =
     (λ _. pick_ind (Letter b) (eqb b 0x74) _ _ (λ h _. rw (eqb-true b 0x74 h) Short.tab) (λ _ l. absurd (omega arith)))))))))
 
 -- what stands in front, and a derivation of what is behind it
-abbrev Derives : ℕ → List ℕ → Spelt → Type 0
-Derives b bs (One u m) = (us : List ℕ) → Spells (drop m bs) us → Spells (b ∷ bs) (u ∷ us)
-Derives b bs Wrong = Unit {0}
+abbrev Derives : ℕ → List ℕ → Result Spelt BadEscape → Type 0
+Derives b bs (Ok s) = (us : List ℕ) → Spells (drop s.more bs) us → Spells (b ∷ bs) (s.character ∷ us)
+Derives b bs (Err e) = Unit {0}
 
 low_small : (v : ℕ) → is_low v ≡ true → v < 0x10000
 low_small v h = let r = range_of 0xDC00 0xDFFF v h in omega arith
@@ -172,7 +172,7 @@ wide_derived b bs l =
     (λ k us s. Spells.pair x h (unit_derived (drop 5 bs) (tested (drop 5 bs) (low_small v k))) k (rw (drop-drop 6 5 bs) s)) (λ _. tt))
     (λ h. pick_ind (Derives b bs) (is_low u) _ _ (λ _. tt) (λ k us s. Spells.u_xxxx x h k s))
 
-letter_derived : (bs : List ℕ) → 0 < short_of (get_or bs 0 0) → Derives 0x5C bs (One (short_of (get_or bs 0 0)) 1)
+letter_derived : (bs : List ℕ) → 0 < short_of (get_or bs 0 0) → Derives 0x5C bs (one (short_of (get_or bs 0 0)) 1)
 unfolding short_of
 letter_derived [] l = absurd (omega arith)
 letter_derived (a ∷ bs) l = λ us s. Spells.short (short_derived a l) s
@@ -192,14 +192,14 @@ derived (suc k) [] us e = let q : [] ≡ us = cc in rw (← q) Spells.none
 derived (suc k) (b ∷ bs) us e = derived k bs us e
 derived zero (b ∷ bs) us e = front (spelt (b ∷ bs)) (front_derived b bs) (λ m vs f. derived m bs vs f) e
   where
-    behind : (u m : ℕ) → Derives b bs (One u m) → (x : Spelling) → ((vs : List ℕ) → x ≡ spelled vs → Spells (drop m bs) vs) → with_one u x ≡ spelled us → Spells (b ∷ bs) us
+    behind : (u m : ℕ) → Derives b bs (one u m) → (x : Spelling) → ((vs : List ℕ) → x ≡ spelled vs → Spells (drop m bs) vs) → with_one u x ≡ spelled us → Spells (b ∷ bs) us
     behind u m d (spelled vs) f e = let q : u ∷ vs ≡ us = cc in rw (← q) (d vs (f vs refl))
     behind u m d wrong f e = impossible (cc)
 
-    front : (x : Spelt) → Derives b bs x → ((m : ℕ) (vs : List ℕ) → spell_from m bs ≡ spelled vs → Spells (drop m bs) vs)
+    front : (x : Result Spelt BadEscape) → Derives b bs x → ((m : ℕ) (vs : List ℕ) → spell_from m bs ≡ spelled vs → Spells (drop m bs) vs)
         → on_spelt x (λ u more. with_one u (spell_from more bs)) wrong ≡ spelled us → Spells (b ∷ bs) us
-    front (One u m) d f e = behind u m d (spell_from m bs) (f m) e
-    front Wrong d f e = impossible (cc)
+    front (Ok s) d f e = behind s.character s.more d (spell_from s.more bs) (f s.more) e
+    front (Err w) d f e = impossible (cc)
 
 -- ---- exactly
 
@@ -220,10 +220,12 @@ compares : (n bs : List ℕ) → Compares n bs (matched n bs)
 unfolding matched
 compares n bs = go (spelling bs) refl
   where
+    by : (us : List ℕ) → Spells bs us → (b : Bool) → same us n ≡ b → Compares n bs (Ok b)
+    by us s true h = Compares.same (rw ((same_exactly us n).0 h) at s)
+    by us s false h = Compares.different s (λ q. true≢false (sym ((same_exactly us n).1 q) ∙ h))
+
     go : (x : Spelling) → spelling bs ≡ x → Compares n bs (compared n x)
-    go (spelled us) e =
-        let s = (spelled_exactly bs us).0 e in
-        pick_ind (Compares n bs) (same us n) _ _ (λ h. Compares.same (rw ((same_exactly us n).0 h) at s)) (λ h. Compares.different s (λ q. true≢false (sym ((same_exactly us n).1 q) ∙ h)))
+    go (spelled us) e = by us ((spelled_exactly bs us).0 e) (same us n) refl
     go wrong e = Compares.bad_escape ((wrong_exactly bs).0 e)
 
 compared_so : {n bs : List ℕ} {r : Match} → Compares n bs r → matched n bs ≡ r

@@ -1,8 +1,7 @@
 -- What the contracts of private functions cite: a name that is another's already, and whose rest is only read.
-use Rattle.names.specs.Spelling.{Spelling, spelled, wrong}
-use Rattle.names.specs.declared.Match.{Match}
-use Rattle.names.specs.declared.Match.TheVariants as Matches
+use Rattle.std.specs.Prelude.{false, Ok, Err}
+use Rattle.names.specs.Spelling.{Spelling, spelled, wrong, no_escape, Match}
 
 abbrev pub another : Spelling → Match
-another (spelled us) = Matches.Different
-another wrong = Matches.BadEscape
+another (spelled us) = Ok false
+another wrong = Err no_escape

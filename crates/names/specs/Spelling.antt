@@ -1,14 +1,12 @@
 -- Names by their characters: RFC 8259, sections 7 and 8.3. A name is the bytes between its quotes, read from the left: an escape means its character,
 -- two escapes of surrogates make one, and any other byte stands for itself. (So a character that UTF-8 writes in several bytes stands as several. Each
 -- is above 127, as is every byte that is no UTF-8; no byte of a path's name is.)
-use Rattle.std.specs.Prelude.{ℕ, zero, suc, ◌+◌, ◌-◌, ◌*◌, Bool, true, false, ◌&&◌, List, [], ◌∷◌, get_or, drop, ltb, eqb}
+use Rattle.std.specs.Prelude.{ℕ, zero, suc, ◌+◌, ◌-◌, ◌*◌, Bool, true, false, ◌&&◌, List, [], ◌∷◌, get_or, drop, ltb, eqb, Result, Ok, Err}
 use Rattle.rules.specs.Word.{pick}
 use Rattle.paths.specs.Path.{in_range}
 use Rattle.texts.specs.Nodes.{is_high, is_low, paired}
 use Rattle.names.specs.declared.Spelt.{Spelt}
-use Rattle.names.specs.declared.Spelt.TheVariants.{One, Wrong}
-use Rattle.names.specs.declared.Match.{Match}
-use Rattle.names.specs.declared.Match.TheVariants as Matches
+use Rattle.names.specs.declared.BadEscape.{BadEscape}
 
 -- ---- one escape. (Behind the end `get_or` gives 0, which stands in no escape.)
 
@@ -37,17 +35,23 @@ short_of b =
 
 -- ---- what stands in front: a character, and how many bytes more than one write it
 
+abbrev pub one : ℕ → ℕ → Result Spelt BadEscape
+one u more = Ok (record { character = u; more = more })
+
+abbrev pub no_escape : BadEscape
+no_escape = record {}
+
 -- of 16 bits u, before 16 bits v: a high surrogate makes one character with a low one; any other surrogate is wrong
-abbrev pub wide : ℕ → ℕ → Spelt
-wide u v = pick (is_high u) (pick (is_low v) (One (paired u v) 11) Wrong) (pick (is_low u) Wrong (One u 5))
+abbrev pub wide : ℕ → ℕ → Result Spelt BadEscape
+wide u v = pick (is_high u) (pick (is_low v) (one (paired u v) 11) (Err no_escape)) (pick (is_low u) (Err no_escape) (one u 5))
 
 -- "an escape RFC 8259 has not" is wrong
-unfoldable pub spelt : List ℕ → Spelt
+unfoldable pub spelt : List ℕ → Result Spelt BadEscape
 spelt bs =
     pick (eqb (get_or bs 0 0) 0x5C)
     (pick (ltb (unit_of bs) 0x10000) (wide (unit_of bs) (unit_of (drop 6 bs)))
-    (pick (ltb 0 (short_of (get_or bs 1 0))) (One (short_of (get_or bs 1 0)) 1) Wrong))
-    (One (get_or bs 0 0) 0)
+    (pick (ltb 0 (short_of (get_or bs 1 0))) (one (short_of (get_or bs 1 0)) 1) (Err no_escape)))
+    (one (get_or bs 0 0) 0)
 
 -- ---- a whole name
 
@@ -56,9 +60,9 @@ pub data Spelling : Type 0 where
   spelled : List ℕ → Spelling
   wrong : Spelling
 
-abbrev pub on_spelt {ℓ} : {A : Type ℓ} → Spelt → (ℕ → ℕ → A) → A → A
-on_spelt (One u more) one bad = one u more
-on_spelt Wrong one bad = bad
+abbrev pub on_spelt {ℓ} : {A : Type ℓ} → Result Spelt BadEscape → (ℕ → ℕ → A) → A → A
+on_spelt (Ok s) one bad = one s.character s.more
+on_spelt (Err e) one bad = bad
 
 abbrev pub with_one : ℕ → Spelling → Spelling
 with_one u (spelled us) = spelled (u ∷ us)
@@ -82,15 +86,19 @@ same [] (y ∷ ys) = false
 same (x ∷ xs) [] = false
 same (x ∷ xs) (y ∷ ys) = eqb x y && same xs ys
 
+-- whether it is that name, or that it spells nothing
+abbrev pub Match : Type 0
+Match = Result Bool BadEscape
+
 abbrev pub compared : List ℕ → Spelling → Match
-compared n (spelled us) = pick (same us n) Matches.Same Matches.Different
-compared n wrong = Matches.BadEscape
+compared n (spelled us) = Ok (same us n)
+compared n wrong = Err no_escape
 
 -- a name of the record, for the name n of a path
 unfoldable pub matched : List ℕ → List ℕ → Match
 matched n bs = compared n (spelling bs)
 
 abbrev pub on_match {ℓ} : {A : Type ℓ} → Match → A → A → A → A
-on_match Matches.Same hit miss bad = hit
-on_match Matches.Different hit miss bad = miss
-on_match Matches.BadEscape hit miss bad = bad
+on_match (Ok true) hit miss bad = hit
+on_match (Ok false) hit miss bad = miss
+on_match (Err e) hit miss bad = bad

@@ -1,10 +1,9 @@
 -- Which bytes spell which characters: RFC 8259, section 7, said without reading. (proofs/Spelled.antt: `spelling` reads exactly this, and `matched`
 -- compares so.)
-use Rattle.std.specs.Prelude.{ℕ, ◌+◌, ◌*◌, ◌≡◌, true, false, ◌≢◌, List, [], ◌∷◌}
+use Rattle.std.specs.Prelude.{ℕ, ◌+◌, ◌*◌, ◌≡◌, true, false, ◌≢◌, Ok, Err, List, [], ◌∷◌}
 use Rattle.texts.specs.Grammar.{Hexdig, Short}
 use Rattle.texts.specs.Nodes.{is_high, is_low, paired}
-use Rattle.names.specs.declared.Match.{Match}
-use Rattle.names.specs.declared.Match.TheVariants.{Same, Different, BadEscape}
+use Rattle.names.specs.Spelling.{no_escape, Match}
 
 -- %x5C %x75 4HEXDIG, the 16 bits written, and the bytes behind
 pub data Unit4 : List ℕ → ℕ → List ℕ → Type 0 where
@@ -22,9 +21,9 @@ pub data Spells : List ℕ → List ℕ → Type 0 where
 
 -- what a name of the record is to the name n of a path
 pub data Compares (n bs : List ℕ) : Match → Type 0 where
-  same : Spells bs n → Compares n bs Same
-  different : {us : List ℕ} → Spells bs us → us ≢ n → Compares n bs Different
-  bad_escape : ((us : List ℕ) → Spells bs us → ⊥) → Compares n bs BadEscape
+  same : Spells bs n → Compares n bs (Ok true)
+  different : {us : List ℕ} → Spells bs us → us ≢ n → Compares n bs (Ok false)
+  bad_escape : ((us : List ℕ) → Spells bs us → ⊥) → Compares n bs (Err no_escape)
 
 -- no byte is a backslash
 abbrev pub Plain : List ℕ → Type 0

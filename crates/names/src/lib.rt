@@ -1,303 +1,153 @@
 // Names by their characters: an escape read, and a name of the record compared with a path's.
 #![tactic(auto)]
 
-ghost use Rattle.std.specs.Prelude.{◌≡◌, true, false, ◌&&◌, ◌||◌, ◌≢◌, ℕ, ◌+◌, ◌≤◌, ◌<◌, ltb, eqb, length, get_or};
-ghost use Rattle.rules.specs.Word.{pick};
-ghost use Rattle.paths.specs.Places.{byte_in, between};
-ghost use Rattle.names.specs.Spelling.{hex_of, four_of, unit_of, short_of, wide, spelt, spelling, same, matched};
+ghost use Rattle.std.specs.Prelude.{◌≡◌, ◌≤◌, ◌<◌, ltb, length, get_or, Ok, Err};
+ghost use Rattle.rules.specs.Word.{pick, told_if, below};
+ghost use Rattle.names.specs.Spelling.{hex_of, four_of, unit_of, short_of, wide, one, no_escape, spelt, spelling, matched};
 ghost use Rattle.names.specs.Helpers.{another};
-ghost use Rattle.names.specs.declared.Spelt.TheVariants.{One, Wrong};
 
-// What stands at a place of a name: a character, written in so many bytes more than one; or an escape that RFC 8259 has not, or half
-// a pair of surrogates.
-#[derive(Clone, Copy)]
-pub enum Spelt {
-    One { character: usize, more: usize },
-    Wrong,
+// A character of a name, written in so many bytes more than one.
+#[derive(Clone, Copy, Debug, PartialEq, Eq)]
+pub struct Spelt {
+    pub character: u32,
+    pub more: usize,
 }
 
-// A name of the record, for the name of a path.
-#[derive(Clone, Copy)]
-pub enum Match {
-    Same,
-    Different,
-    BadEscape,
-}
+// An escape that RFC 8259 has not, or half a pair of surrogates.
+#[derive(Clone, Copy, Debug, PartialEq, Eq)]
+pub struct BadEscape;
 
-// There was one before, or this byte is one.
-fn or_this(any: bool, b: u8, wanted: u8) -> bool
-    ensures { result ≡ (eqb b wanted || any) }
+// The value of a hexadecimal digit.
+fn hex_of(b: u8) -> Option<u32>
+    ensures { result ≡ below 16 (hex_of b) }
 {
-    if b == wanted {
-        return true;
-    }
-    any
+    (b as char).to_digit(16)
 }
 
-// One of these 16 bytes is the wanted one. All are looked at, so that they are tested in one word of the machine.
-pub fn any_of(text: &[u8], at: usize, wanted: u8) -> bool
-    requires { at + 16 ≤ length text.now }
-    ensures { result ≡ false → (i : ℕ) → at ≤ i → i < at + 16 → byte_in text.now i ≢ wanted }
-{
-    let mut any = false;
-    let mut j: usize = 0;
-    while j < 16 {
-        any = or_this(any, text[at + j], wanted);
-        j += 1;
-    }
-    any
-}
-
-// From p to q there is no backslash, looked for byte by byte.
-fn is_free(text: &[u8], p: usize, q: usize) -> bool
-    requires { q ≤ length text.now }
-    ensures { result ≡ true → (i : ℕ) → p ≤ i → i < q → byte_in text.now i ≢ 0x5C }
-{
-    let mut i = p;
-    while i < q {
-        if text[i] == 0x5C {
-            return false;
-        }
-        i += 1;
-    }
-    true
-}
-
-// The same, 16 bytes at a time, over q as far as there are so many. Only where a backslash is among them, or the record ends, the
-// bytes are looked at one by one.
-fn is_plain(text: &[u8], p: usize, q: usize) -> bool
-    requires { (q ≤ length text.now) × (length text.now ≤ 16777216) }
-    ensures { result ≡ true → (i : ℕ) → p ≤ i → i < q → byte_in text.now i ≢ 0x5C }
-{
-    let mut at = p;
-    while at < q {
-        if text.len() < at + 16 {
-            return is_free(text, at, q);
-        }
-        if any_of(text, at, 0x5C) {
-            return is_free(text, at, q);
-        }
-        at += 16;
-    }
-    true
-}
-
-// The bytes p to q of the record are the bytes b to f of the path.
-fn same_bytes(text: &[u8], p: usize, q: usize, path: &[u8], b: usize, f: usize) -> bool
-    requires { (p ≤ q) × (q ≤ length text.now) × (b ≤ f) × (f ≤ length path.now) }
-    ensures { result ≡ same (between (byte_in text.now) p q) (between (byte_in path.now) b f) }
-{
-    let n = f - b;
-    if q - p != n {
-        return false;
-    }
-    let mut k = 0;
-    while k < n {
-        if text[p + k] != path[b + k] {
-            return false;
-        }
-        k += 1;
-    }
-    true
-}
-
-// The value of a hexadecimal digit; 16 of any other byte.
-fn hex_of(b: u8) -> usize
-    ensures { result ≡ hex_of b }
+// What a letter behind a backslash means.
+#[tactic(auto, unfolding(crate::specs::Spelling::short_of))]
+fn short_of(b: u8) -> Option<u32>
+    ensures { result ≡ told_if (ltb 0 (short_of b)) (short_of b) }
 {
     match b {
-        0x30..=0x39 => (b - 0x30) as usize,
-        0x41..=0x46 => (b - 0x41) as usize + 10,
-        0x61..=0x66 => (b - 0x61) as usize + 10,
-        _ => 16,
+        b'"' => Some(0x22),
+        b'\\' => Some(0x5C),
+        b'/' => Some(0x2F),
+        b'b' => Some(0x08),
+        b'f' => Some(0x0C),
+        b'n' => Some(0x0A),
+        b'r' => Some(0x0D),
+        b't' => Some(0x09),
+        _ => None,
     }
 }
 
-// What a letter behind a backslash means; 0 of any other byte.
-fn short_of(b: u8) -> usize
-    ensures { result ≡ short_of b }
+// Four hexadecimal digits.
+fn four_digits(digits: &[u8]) -> Option<u32>
+    requires { 4 ≤ length digits.now }
+    ensures { result ≡ below 0x10000 (four_of (get_or digits.now 0 0) (get_or digits.now 1 0) (get_or digits.now 2 0) (get_or digits.now 3 0)) }
 {
-    match b {
-        0x22 => 0x22,
-        0x5C => 0x5C,
-        0x2F => 0x2F,
-        0x62 => 0x08,
-        0x66 => 0x0C,
-        0x6E => 0x0A,
-        0x72 => 0x0D,
-        0x74 => 0x09,
-        _ => 0,
-    }
+    let x = hex_of(digits[0])?;
+    let y = hex_of(digits[1])?;
+    let z = hex_of(digits[2])?;
+    let u = hex_of(digits[3])?;
+    Some(((x * 16 + y) * 16 + z) * 16 + u)
 }
 
-// Four hexadecimal digits; 0x10000 where one is none.
-fn four_digits(text: &[u8], i: usize) -> usize
-    requires { (i + 4 ≤ length text.now) × (length text.now ≤ 16777216) }
-    ensures { result ≡ four_of (byte_in text.now i) (byte_in text.now (i + 1)) (byte_in text.now (i + 2)) (byte_in text.now (i + 3)) }
+// In front stands `\u` with four hexadecimal digits: the 16 bits written.
+fn unit_at(name: &[u8]) -> Option<u32>
+    ensures { result ≡ below 0x10000 (unit_of name.now) }
 {
-    let x = hex_of(text[i]);
-    if 16 <= x {
-        return 0x10000;
+    if name.len() < 6 || name[0] != b'\\' || name[1] != b'u' {
+        return None;
     }
-    let y = hex_of(text[i + 1]);
-    if 16 <= y {
-        return 0x10000;
-    }
-    let z = hex_of(text[i + 2]);
-    if 16 <= z {
-        return 0x10000;
-    }
-    let u = hex_of(text[i + 3]);
-    if 16 <= u {
-        return 0x10000;
-    }
-    ((x * 16 + y) * 16 + z) * 16 + u
+    four_digits(&name[2..])
 }
 
-// At i, before q, stands `\u` with four hexadecimal digits: the 16 bits written; else 0x10000.
-fn unit_at(text: &[u8], i: usize, q: usize) -> usize
-    requires { (i ≤ 16777228) × (q ≤ length text.now) × (length text.now ≤ 16777216) }
-    ensures { result ≡ unit_of (between (byte_in text.now) i q) }
+// Of 16 bits u, before the rest of a name.
+fn wide_of(u: u32, rest: &[u8]) -> Result<Spelt, BadEscape>
+    ensures { result ≡ wide u (unit_of rest.now) }
 {
-    if q < i + 6 {
-        return 0x10000;
-    }
-    if text[i] != 0x5C {
-        return 0x10000;
-    }
-    if text[i + 1] != 0x75 {
-        return 0x10000;
-    }
-    four_digits(text, i + 2)
-}
-
-// Of 16 bits u, before 16 bits v.
-fn wide_of(u: usize, v: usize) -> Spelt
-    ensures { result ≡ wide u v }
-{
-    if u < 0xD800 {
-        return Spelt::One {
+    match u {
+        0xD800..=0xDBFF => match unit_at(rest) {
+            Some(v @ 0xDC00..=0xDFFF) => Ok(Spelt {
+                character: 0x10000 + (u - 0xD800) * 0x400 + (v - 0xDC00),
+                more: 11,
+            }),
+            _ => Err(BadEscape),
+        },
+        0xDC00..=0xDFFF => Err(BadEscape),
+        _ => Ok(Spelt {
             character: u,
             more: 5,
-        };
-    }
-    if 0xDFFF < u {
-        return Spelt::One {
-            character: u,
-            more: 5,
-        };
-    }
-    if 0xDBFF < u {
-        return Spelt::Wrong;
-    }
-    if v < 0xDC00 {
-        return Spelt::Wrong;
-    }
-    if 0xDFFF < v {
-        return Spelt::Wrong;
-    }
-    Spelt::One {
-        character: 0x10000 + (u - 0xD800) * 0x400 + (v - 0xDC00),
-        more: 11,
+        }),
     }
 }
 
-// Behind the backslash at i, before q, stands one letter.
-fn short_at(text: &[u8], i: usize, q: usize) -> Spelt
-    requires { (i < q) × (q ≤ length text.now) }
-    ensures { result ≡ pick (ltb 0 (short_of (get_or (between (byte_in text.now) i q) 1 0))) (One (short_of (get_or (between (byte_in text.now) i q) 1 0)) 1) Wrong }
+// Behind the backslash in front stands one letter.
+fn short_at(name: &[u8]) -> Result<Spelt, BadEscape>
+    ensures { result ≡ pick (ltb 0 (short_of (get_or name.now 1 0))) (one (short_of (get_or name.now 1 0)) 1) (Err no_escape) }
 {
-    if q <= i + 1 {
-        return Spelt::Wrong;
+    if name.len() < 2 {
+        return Err(BadEscape);
     }
-    let character = short_of(text[i + 1]);
-    if character == 0 {
-        return Spelt::Wrong;
-    }
-    Spelt::One { character, more: 1 }
+    let character = short_of(name[1]).ok_or(BadEscape)?;
+    Ok(Spelt { character, more: 1 })
 }
 
-// What stands at i, before q.
-fn spelt_at(text: &[u8], i: usize, q: usize) -> Spelt
-    requires { (i < q) × (q ≤ length text.now) × (length text.now ≤ 16777216) }
-    ensures { result ≡ spelt (between (byte_in text.now) i q) }
+// What stands in front.
+fn spelt_at(name: &[u8]) -> Result<Spelt, BadEscape>
+    requires { 0 < length name.now }
+    ensures { result ≡ spelt name.now }
 {
-    if text[i] != 0x5C {
-        return Spelt::One {
-            character: text[i] as usize,
+    if name[0] != b'\\' {
+        return Ok(Spelt {
+            character: name[0] as u32,
             more: 0,
-        };
+        });
     }
-    let u = unit_at(text, i, q);
-    if u < 0x10000 {
-        let v = unit_at(text, i + 6, q);
-        return wide_of(u, v);
+    match unit_at(name) {
+        Some(u) => wide_of(u, &name[6..]),
+        None => short_at(name),
     }
-    short_at(text, i, q)
 }
 
 // The rest of a name that is another's already.
-fn read_on(text: &[u8], p: usize, q: usize) -> Match
-    requires { (p ≤ 16777228) × (q ≤ length text.now) × (length text.now ≤ 16777216) }
-    ensures { result ≡ another (spelling (between (byte_in text.now) p q)) }
+fn read_on(name: &[u8]) -> Result<bool, BadEscape>
+    ensures { result ≡ another (spelling name.now) }
 {
-    let mut i = p;
-    while i < q {
-        let here = spelt_at(text, i, q);
-        let Spelt::One { character: _, more } = here else {
-            return Match::BadEscape;
-        };
-        i = i + 1 + more;
+    let mut rest = name;
+    while !rest.is_empty() {
+        let here = spelt_at(rest)?;
+        rest = &rest[1 + here.more..];
     }
-    Match::Different
-}
-
-// The byte k of the path, before f, is that character.
-fn is_next(path: &[u8], k: usize, f: usize, character: usize) -> bool
-    requires { f ≤ length path.now }
-    ensures { result ≡ (ltb k f && eqb character (byte_in path.now k)) }
-{
-    if f <= k {
-        return false;
-    }
-    character == path[k] as usize
+    Ok(false)
 }
 
 // Character after character.
-fn match_spelt(text: &[u8], p: usize, q: usize, path: &[u8], b: usize, f: usize) -> Match
-    requires { (p ≤ q) × (q ≤ length text.now) × (length text.now ≤ 16777216) × (b ≤ f) × (f ≤ length path.now) }
-    ensures { result ≡ matched (between (byte_in path.now) b f) (between (byte_in text.now) p q) }
+fn match_spelt(name: &[u8], wanted: &[u8]) -> Result<bool, BadEscape>
+    ensures { result ≡ matched wanted.now name.now }
 {
-    let mut i = p;
-    let mut k = b;
-    while i < q {
-        let here = spelt_at(text, i, q);
-        let Spelt::One { character, more } = here else {
-            return Match::BadEscape;
-        };
-        if !is_next(path, k, f, character) {
-            return read_on(text, i + 1 + more, q);
+    let mut rest = name;
+    let mut left = wanted;
+    while !rest.is_empty() {
+        let here = spelt_at(rest)?;
+        rest = &rest[1 + here.more..];
+        if left.is_empty() || left[0] as u32 != here.character {
+            return read_on(rest);
         }
-        i = i + 1 + more;
-        k += 1;
+        left = &left[1..];
     }
-    if k < f {
-        return Match::Different;
-    }
-    Match::Same
+    Ok(left.is_empty())
 }
 
-// The name p to q of the record, for the name b to f of the path. Without a backslash the bytes are compared.
-pub fn match_name(text: &[u8], p: usize, q: usize, path: &[u8], b: usize, f: usize) -> Match
-    requires { (p ≤ q) × (q ≤ length text.now) × (length text.now ≤ 16777216) × (b ≤ f) × (f ≤ length path.now) }
-    ensures { result ≡ matched (between (byte_in path.now) b f) (between (byte_in text.now) p q) }
+// A name of the record, for the name of a path. Without a backslash the bytes are compared.
+pub fn match_name(name: &[u8], wanted: &[u8]) -> Result<bool, BadEscape>
+    ensures { result ≡ matched wanted.now name.now }
 {
-    if !is_plain(text, p, q) {
-        return match_spelt(text, p, q, path, b, f);
-    }
-    if same_bytes(text, p, q, path, b, f) {
-        Match::Same
+    if name.contains(&b'\\') {
+        match_spelt(name, wanted)
     } else {
-        Match::Different
+        Ok(name == wanted)
     }
 }

@@ -3,6 +3,7 @@ use Prim.Native.Nat.{ℕ, zero, suc, ◌+◌, ◌-◌, ◌≤◌, ◌<◌, min}
 use mathlib.Core.Path.{◌≡◌, refl, sym, ap, ◌∙◌}
 use mathlib.Core.Bool.{Bool, true, false, ◌||◌}
 use mathlib.Core.List.{List}
+use Rattle.std.proofs.Common.{Some, None, Result, Ok, Err}
 use native.Mathlib.Omega.{arith}
 use native.Mathlib.Nat.{add-zero, zero-add}
 use lib.Dec.{ltb, eqb}
@@ -12,26 +13,23 @@ use Rattle.rules.specs.Word.{pick}
 use Rattle.rules.proofs.Booleans.{impossible}
 use Rattle.paths.specs.Places.{byte_in, between}
 use Rattle.paths.specs.Grammar.{Selector, name, number}
-use Rattle.paths.specs.Path.{step_at, Reading, good, bad, before, read_from, read_path, large}
+use Rattle.paths.specs.Path.{Step, step_at, Reading, good, bad, before, read_from, read_path, large}
 use Rattle.paths.specs.Helpers.{told, limits_of, checked_reading, path_check}
-use Rattle.paths.specs.declared.PathStep.TheVariants.{Name, Number, End, Refused}
-use Rattle.paths.specs.declared.Checked.{Checked}
-use Rattle.paths.specs.declared.Checked.TheVariants.{Fine, Bad, TooLarge, TooDeep}
-use Rattle.paths.proofs.PathLaws.{name_told, number_told, end_told, bad_told, inside}
+use Rattle.paths.specs.declared.PathStep.TheVariants as Held
+use Rattle.paths.specs.declared.BadPath.{BadPath}
+use Rattle.paths.specs.declared.PathRefusal.{PathRefusal}
+use Rattle.paths.specs.declared.PathRefusal.TheVariants.{Bad, TooLarge, TooDeep}
+use Rattle.paths.proofs.PathLaws.{or_or, name_told, number_told, end_told, bad_told, inside}
 
 -- the check of what is read, after so many steps and perhaps a large number
-abbrev rest : Bool → ℕ → ℕ → Reading → Checked
+abbrev rest : Bool → ℕ → ℕ → Reading → Result (Unit {0}) PathRefusal
 rest big steps levels (good ss) = limits_of (big || large ss) (steps + length ss) levels
-rest big steps levels (bad p) = Bad p
+rest big steps levels (bad p) = Err (Bad p)
 
 rest_name : (big : Bool) (steps levels : ℕ) (n : List ℕ) (r : Reading) → rest big steps levels (before (name n) r) ≡ rest big (steps + 1) levels r
 unfolding large
 rest_name big steps levels n (good ss) = ap (λ (c : ℕ). limits_of (big || large ss) c levels) (omega arith)
 rest_name big steps levels n (bad p) = refl
-
-or_or : (a b c : Bool) → (a || (b || c)) ≡ ((a || b) || c)
-or_or true b c = refl
-or_or false b c = refl
 
 rest_number : (big : Bool) (steps levels v : ℕ) (r : Reading) → rest big steps levels (before (number v) r) ≡ rest (big || ltb 16777215 v) (steps + 1) levels r
 unfolding large
@@ -56,12 +54,6 @@ checking_start path levels l h =
     start (good ss) = ap (λ (c : ℕ). limits_of (large ss) c levels) (sym (zero-add (length ss)))
     start (bad p) = refl
 
-or_pick : (big c : Bool) → (big || c) ≡ pick c true big
-or_pick true true = refl
-or_pick true false = refl
-or_pick false true = refl
-or_pick false false = refl
-
 -- a number that the code holds is large where the number is
 large_told : (v m : ℕ) → m ≡ min v 16777216 → ltb 16777215 v ≡ ltb 16777215 m
 large_told v m e = go (ltb 16777215 m) refl
@@ -71,16 +63,16 @@ large_told v m e = go (ltb 16777215 m) refl
     go false h = le-ltb 16777215 v (omega (arith, ltb-false 16777215 m h)) ∙ sym h
 
 -- the rest is read behind the step
-pub read_name : (path : List ℕ) (at : ℕ) {b f x : ℕ} (c : ℕ) → step_at path at ≡ Name b f x → read_from (suc c) path at ≡ before (name (between (byte_in path) b f)) (read_from c path x)
+pub read_name : (path : List ℕ) (at : ℕ) {b f x : ℕ} (c : ℕ) → step_at path at ≡ Step.Name b f x → read_from (suc c) path at ≡ before (name (between (byte_in path) b f)) (read_from c path x)
 unfolding read_from
 read_name path at c e = rw e
 
-pub read_number : (path : List ℕ) (at : ℕ) {v x : ℕ} (c : ℕ) → step_at path at ≡ Number v x → read_from (suc c) path at ≡ before (number v) (read_from c path x)
+pub read_number : (path : List ℕ) (at : ℕ) {v x : ℕ} (c : ℕ) → step_at path at ≡ Step.Number v x → read_from (suc c) path at ≡ before (number v) (read_from c path x)
 unfolding read_from
 read_number path at c e = rw e
 
 module _ {path : List ℕ} {levels at : ℕ} {big : Bool} {steps : ℕ} (i : Checking path levels at big steps) where
-  pub checking_name : {b f x : ℕ} → told (step_at path at) ≡ Name b f x → (at < x) × Checking path levels x big (steps + 1)
+  pub checking_name : {b f x : ℕ} → told (step_at path at) ≡ Ok (Some (Held.Name b f x)) → (at < x) × Checking path levels x big (steps + 1)
   checking_name {b} {f} {x} e = go i.fuel i.enough i.same
     where
       go : (c : ℕ) → length path - at < c → path_check path levels ≡ rest big steps levels (read_from c path at) → (at < x) × Checking path levels x big (steps + 1)
@@ -98,10 +90,10 @@ module _ {path : List ℕ} {levels at : ℕ} {big : Bool} {steps : ℕ} (i : Che
             },
           )
 
-  pub checking_number : {m x : ℕ} {t : Bool} → told (step_at path at) ≡ Number m x → ltb 16777215 m ≡ t → (at < x) × Checking path levels x (pick t true big) (steps + 1)
-  checking_number {m} {x} {t} e h = go i.fuel i.enough i.same
+  pub checking_number : {m x : ℕ} → told (step_at path at) ≡ Ok (Some (Held.Number m x)) → (at < x) × Checking path levels x (big || ltb 16777215 m) (steps + 1)
+  checking_number {m} {x} e = go i.fuel i.enough i.same
     where
-      go : (c : ℕ) → length path - at < c → path_check path levels ≡ rest big steps levels (read_from c path at) → (at < x) × Checking path levels x (pick t true big) (steps + 1)
+      go : (c : ℕ) → length path - at < c → path_check path levels ≡ rest big steps levels (read_from c path at) → (at < x) × Checking path levels x (big || ltb 16777215 m) (steps + 1)
       go zero l q = absurd (omega arith)
       go (suc c) l q =
           let n = number_told path at e in (
@@ -114,11 +106,11 @@ module _ {path : List ℕ} {levels at : ℕ} {big : Bool} {steps : ℕ} (i : Che
               enough = omega arith;
               same =
                   q ∙ ap (rest big steps levels) (read_number path at c n.1) ∙ rest_number big steps levels n.0 (read_from c path x)
-                  ∙ ap (λ (b : Bool). rest b (steps + 1) levels (read_from c path x)) (ap (λ (b : Bool). big || b) (large_told n.0 m n.2 ∙ h) ∙ or_pick big t);
+                  ∙ ap (λ (b : Bool). rest b (steps + 1) levels (read_from c path x)) (ap (λ (b : Bool). big || b) (large_told n.0 m n.2));
             },
           )
 
-  pub checking_end : told (step_at path at) ≡ End → path_check path levels ≡ limits_of big steps levels
+  pub checking_end : told (step_at path at) ≡ Ok None → path_check path levels ≡ limits_of big steps levels
   unfolding read_from large
   checking_end e = go i.fuel i.enough i.same
     where
@@ -130,11 +122,11 @@ module _ {path : List ℕ} {levels at : ℕ} {big : Bool} {steps : ℕ} (i : Che
       go zero l q = absurd (omega arith)
       go (suc c) l q = q ∙ rw (end_told path at e, none, add-zero)
 
-  pub checking_bad : {p : ℕ} → told (step_at path at) ≡ Refused p → path_check path levels ≡ Bad p
+  pub checking_bad : {bad : BadPath} → told (step_at path at) ≡ Err bad → path_check path levels ≡ Err (Bad bad.place)
   unfolding read_from
-  checking_bad {p} e = go i.fuel i.enough i.same
+  checking_bad {bad} e = go i.fuel i.enough i.same
     where
-      go : (c : ℕ) → length path - at < c → path_check path levels ≡ rest big steps levels (read_from c path at) → path_check path levels ≡ Bad p
+      go : (c : ℕ) → length path - at < c → path_check path levels ≡ rest big steps levels (read_from c path at) → path_check path levels ≡ Err (Bad bad.place)
       go zero l q = absurd (omega arith)
       go (suc c) l q = q ∙ rw (bad_told path at e)
 
@@ -147,16 +139,16 @@ pub record Fits (path : List ℕ) (levels : ℕ) : Type 0 where
   pub small : large selectors ≡ false
   pub few : length selectors ≤ levels
 
-fine_limits : (b c : Bool) → pick b TooLarge (pick c TooDeep Fine) ≡ Fine → (b ≡ false) × (c ≡ false)
+fine_limits : (b c : Bool) → ◌≡◌ {A = Result (Unit {0}) PathRefusal} (pick b (Err TooLarge) (pick c (Err TooDeep) (Ok tt))) (Ok tt) → (b ≡ false) × (c ≡ false)
 fine_limits true c e = impossible (cc)
 fine_limits false true e = impossible (cc)
 fine_limits false false e = (refl, refl)
 
-pub fits_fine : (path : List ℕ) (levels : ℕ) → path_check path levels ≡ Fine → Fits path levels
+pub fits_fine : (path : List ℕ) (levels : ℕ) → path_check path levels ≡ Ok tt → Fits path levels
 unfolding path_check
 fits_fine path levels e = go (ltb 1024 (length path)) (read_path path) refl e
   where
-    go : (b : Bool) (r : Reading) → read_path path ≡ r → pick b TooLarge (checked_reading levels r) ≡ Fine → Fits path levels
+    go : (b : Bool) (r : Reading) → read_path path ≡ r → pick b (Err TooLarge) (checked_reading levels r) ≡ Ok tt → Fits path levels
     go true r q e = impossible (cc)
     go false (bad p) q e = impossible (cc)
     go false (good ss) q e =

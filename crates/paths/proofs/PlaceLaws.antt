@@ -3,7 +3,10 @@ use Prim.Native.Nat.{ℕ, zero, suc, ◌+◌, ◌-◌, ◌≤◌, ◌<◌}
 use mathlib.Core.Path.{◌≡◌, refl, sym, ap, ◌∙◌, subst}
 use mathlib.Core.Bool.{Bool, true, false, true≢false}
 use mathlib.Core.Logic.{⊎_elim}
-use mathlib.Core.List.{[], ◌∷◌}
+use mathlib.Core.List.{List, [], ◌∷◌}
+use lib.ListN.{length, get_or, take, drop}
+use lib.Seq.{drop-cons, take-length}
+use Rattle.std.proofs.lemmas.List.{length-drop}
 use native.Mathlib.Omega.{arith}
 use native.Mathlib.Nat.{eq-or-lt_of_le}
 use native.Mathlib.Decide.{dec_lt}
@@ -12,7 +15,7 @@ use borrow.Author.Tests.{lt-ltb, le-ltb}
 use Rattle.rules.specs.Word.{pick, digit, count}
 use Rattle.rules.proofs.Counting.{count_cat}
 use Rattle.rules.specs.Layout.{listed}
-use Rattle.paths.specs.Places.{between, first_at, first_in, past_last, past_last_in, nth_at}
+use Rattle.paths.specs.Places.{byte_in, between, first_at, first_in, past_last, past_last_in, nth_at}
 
 -- nothing to look at
 pub first_none : (t : ℕ → Bool) (a e : ℕ) → e ≤ a → first_at t a e ≡ a
@@ -102,20 +105,6 @@ pick_ind P false x y f g = g refl
 pub last_none : (t : ℕ → Bool) (a e : ℕ) → e ≤ a → past_last t a e ≡ a
 unfolding past_last past_last_in
 last_none t a e h = let z : e - a ≡ 0 = omega arith in rw z
-
-last_step : (t : ℕ → Bool) (a e : ℕ) → a < e → past_last t a e ≡ pick (t (e - 1)) e (past_last t a (e - 1))
-unfolding past_last past_last_in
-last_step t a e h =
-    let n : e - a ≡ suc (e - 1 - a) = omega arith in
-    let p : a + (e - 1 - a) ≡ e - 1 = omega arith in
-    let q : a + suc (e - 1 - a) ≡ e = omega arith in
-    rw (n, p, q)
-
-pub last_here : (t : ℕ → Bool) (a e : ℕ) → a < e → t (e - 1) ≡ true → past_last t a e ≡ e
-last_here t a e h y = last_step t a e h ∙ ap (λ (b : Bool). pick b e (past_last t a (e - 1))) y
-
-pub last_next : (t : ℕ → Bool) (a e : ℕ) → a < e → t (e - 1) ≡ false → past_last t a e ≡ past_last t a (e - 1)
-last_next t a e h y = last_step t a e h ∙ ap (λ (b : Bool). pick b e (past_last t a (e - 1))) y
 
 pub last_bounds : (t : ℕ → Bool) (a e : ℕ) → a ≤ e → (a ≤ past_last t a e) × (past_last t a e ≤ e)
 unfolding past_last past_last_in
@@ -236,3 +225,18 @@ between_none byte a e h = let z : e - a ≡ 0 = omega arith in rw z
 pub between_some : (byte : ℕ → ℕ) (a e : ℕ) → a < e → between byte a e ≡ byte a ∷ between byte (suc a) e
 unfolding listed
 between_some byte a e h = let z : e - a ≡ suc (e - suc a) = omega arith in rw z
+
+-- ---- slices
+
+-- `&xs[a..]`
+pub rest_is : (xs : List ℕ) (a : ℕ) → take (length xs - a) (drop a xs) ≡ drop a xs
+rest_is xs a = ap (λ (n : ℕ). take n (drop a xs)) (sym (length-drop a xs)) ∙ take-length (drop a xs)
+
+-- `&text[a..e]`
+pub between_is : (text : List ℕ) (a e : ℕ) → e ≤ length text → between (byte_in text) a e ≡ take (e - a) (drop a text)
+unfolding listed byte_in
+between_is text a e h = go (e - a) a (omega arith)
+  where
+    go : (c a : ℕ) → (0 < c → a + c ≤ length text) → listed (byte_in text) a c ≡ take c (drop a text)
+    go zero a h = refl
+    go (suc c) a h = ap {B = List ℕ} (λ r. get_or text a 0 ∷ r) (go c (suc a) (λ l. omega (arith, h))) ∙ sym (ap (take (suc c)) (drop-cons text a 0 (omega (arith, h))))

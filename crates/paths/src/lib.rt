@@ -3,12 +3,13 @@
 
 ghost use Rattle.std.specs.Prelude.{◌≡◌, ◌-◌, ◌≤◌, min, length};
 ghost use Rattle.paths.specs.Path.{is_head, is_digit, is_tail, run_end, decimal, name_at, bracketed, number_at, step_at};
-ghost use Rattle.paths.specs.Helpers.{told, limits_of, path_check};
+ghost use Rattle.paths.specs.Helpers.{told, some_step, limits_of, path_check};
+ghost use Rattle.paths.specs.declared.PathRefusal.TheVariants.{Bad};
 
-// What reading at a place of the path hands back.
-#[derive(Clone, Copy)]
+// A step of a path. What follows it begins at next.
+#[derive(Clone, Copy, Debug, PartialEq, Eq)]
 pub enum PathStep {
-    // `.name`: its bytes are start to end, and what follows begins at next.
+    // `.name`: its bytes are start to end.
     Name {
         start: usize,
         end: usize,
@@ -19,20 +20,28 @@ pub enum PathStep {
         value: usize,
         next: usize,
     },
-    // Nothing is left.
-    End,
-    // The place of the first byte that no path could have there, or the length.
-    Refused {
-        place: usize,
-    },
 }
 
-#[derive(Clone, Copy)]
-pub enum Checked {
-    Fine,
+// The place of the first byte that no path could have there, or the length.
+#[derive(Clone, Copy, Debug, PartialEq, Eq)]
+pub struct BadPath {
+    pub place: usize,
+}
+
+// Why a path is not walked.
+#[derive(Clone, Copy, Debug, PartialEq, Eq)]
+pub enum PathRefusal {
     Bad { place: usize },
     TooLarge,
     TooDeep,
+}
+
+impl From<BadPath> for PathRefusal {
+    ghost from_gives = { λ bad e. e ≡ Bad bad.place };
+
+    fn from(bad: BadPath) -> PathRefusal {
+        PathRefusal::Bad { place: bad.place }
+    }
 }
 
 #[derive(Clone, Copy)]
@@ -41,47 +50,28 @@ struct Digits {
     value: usize,
 }
 
-fn is_digit(b: u8) -> bool
-    ensures { result ≡ is_digit b }
-{
-    match b {
-        48..=57 => true,
-        _ => false,
-    }
-}
-
 fn is_head(b: u8) -> bool
     ensures { result ≡ is_head b }
 {
-    match b {
-        65..=90 => true,
-        97..=122 => true,
-        95 => true,
-        _ => false,
-    }
+    b.is_ascii_alphabetic() || b == b'_'
 }
 
 fn is_tail(b: u8) -> bool
     ensures { result ≡ is_tail b }
 {
-    if is_head(b) {
-        return true;
-    }
-    is_digit(b)
+    is_head(b) || b.is_ascii_digit()
 }
 
 fn name_end(path: &[u8], from: usize) -> usize
     requires { from ≤ length path.now }
     ensures { result ≡ run_end is_tail path.now from }
 {
-    let mut i = from;
-    while i < path.len() {
+    for i in from..path.len() {
         if !is_tail(path[i]) {
             return i;
         }
-        i += 1;
     }
-    i
+    path.len()
 }
 
 // A value stays at 16,777,216 once it is above 16,777,215.
@@ -89,145 +79,111 @@ fn read_digits(path: &[u8], from: usize) -> Digits
     requires { from ≤ length path.now }
     ensures { (result.end ≡ run_end is_digit path.now from) × (result.value ≡ min (decimal path.now from (result.end - from)) 16777216) }
 {
-    let mut i = from;
-    let mut v: usize = 0;
-    while i < path.len() {
+    let mut value: usize = 0;
+    for i in from..path.len() {
         let b = path[i];
-        if !is_digit(b) {
-            return Digits { end: i, value: v };
+        if !b.is_ascii_digit() {
+            return Digits { end: i, value };
         }
-        v = v * 10 + ((b - 48) as usize);
-        if 16777216 < v {
-            v = 16777216;
-        }
-        i += 1;
+        value = (value * 10 + (b - b'0') as usize).min(16777216);
     }
-    Digits { end: i, value: v }
+    Digits {
+        end: path.len(),
+        value,
+    }
 }
 
-fn read_name(path: &[u8], from: usize) -> PathStep
-    requires { from ≤ length path.now }
-    ensures { result ≡ name_at path.now from }
+fn read_name(path: &[u8], from: usize) -> Result<PathStep, BadPath>
+    ensures { some_step result ≡ told (name_at path.now from) }
 {
-    if path.len() <= from {
-        return PathStep::Refused { place: from };
-    }
-    if !is_head(path[from]) {
-        return PathStep::Refused { place: from };
-    }
-    let end = name_end(path, from + 1);
-    PathStep::Name {
-        start: from,
-        end,
-        next: end,
+    if from < path.len() && is_head(path[from]) {
+        let end = name_end(path, from + 1);
+        Ok(PathStep::Name {
+            start: from,
+            end,
+            next: end,
+        })
+    } else {
+        Err(BadPath { place: from })
     }
 }
 
 // The bracket behind a number's digits.
-fn close_number(path: &[u8], end: usize, value: usize) -> PathStep
-    requires { end ≤ length path.now }
-    ensures { result ≡ bracketed path.now end value }
+fn close_number(path: &[u8], end: usize, value: usize) -> Result<PathStep, BadPath>
+    requires { value ≤ 16777216 }
+    ensures { some_step result ≡ told (bracketed path.now end value) }
 {
-    if path.len() <= end {
-        return PathStep::Refused { place: end };
-    }
-    if path[end] == 93 {
-        PathStep::Number {
+    if end < path.len() && path[end] == b']' {
+        Ok(PathStep::Number {
             value,
             next: end + 1,
-        }
+        })
     } else {
-        PathStep::Refused { place: end }
+        Err(BadPath { place: end })
     }
 }
 
-fn read_number(path: &[u8], from: usize) -> PathStep
-    requires { from ≤ length path.now }
-    ensures { result ≡ told (number_at path.now from) }
+fn read_number(path: &[u8], from: usize) -> Result<PathStep, BadPath>
+    ensures { some_step result ≡ told (number_at path.now from) }
 {
-    if path.len() <= from {
-        return PathStep::Refused { place: from };
+    if path.len() <= from || !path[from].is_ascii_digit() {
+        return Err(BadPath { place: from });
     }
-    let b = path[from];
-    if b == 48 {
+    if path[from] == b'0' {
         return close_number(path, from + 1, 0);
     }
-    if !is_digit(b) {
-        return PathStep::Refused { place: from };
-    }
-    let d = read_digits(path, from);
-    close_number(path, d.end, d.value)
+    let digits = read_digits(path, from);
+    close_number(path, digits.end, digits.value)
 }
 
-// The step that begins at a place of the path, with what follows it, or the refusal with its place.
-pub fn read_step(path: &[u8], at: usize) -> PathStep
+// The step that begins at a place of the path, if anything is left there.
+pub fn read_step(path: &[u8], at: usize) -> Result<Option<PathStep>, BadPath>
     ensures { result ≡ told (step_at path.now at) }
 {
     if path.len() <= at {
-        return PathStep::End;
+        return Ok(None);
     }
-    let b = path[at];
-    if b == 46 {
-        return read_name(path, at + 1);
+    match path[at] {
+        b'.' => Ok(Some(read_name(path, at + 1)?)),
+        b'[' => Ok(Some(read_number(path, at + 1)?)),
+        _ => Err(BadPath { place: at }),
     }
-    if b == 91 {
-        return read_number(path, at + 1);
-    }
-    PathStep::Refused { place: at }
 }
 
-fn limits(big: bool, steps: usize, levels: usize) -> Checked
+fn check_limits(big: bool, steps: usize, levels: usize) -> Result<(), PathRefusal>
     ensures { result ≡ limits_of big steps levels }
 {
     if big {
-        return Checked::TooLarge;
+        return Err(PathRefusal::TooLarge);
     }
     if levels < steps {
-        Checked::TooDeep
-    } else {
-        Checked::Fine
+        return Err(PathRefusal::TooDeep);
     }
+    Ok(())
 }
 
 // The whole path: its length, its grammar, its numbers and how many steps it has, in this order.
-pub fn check_path(path: &[u8], levels: usize) -> Checked
+pub fn check_path(path: &[u8], levels: usize) -> Result<(), PathRefusal>
     ensures { result ≡ path_check path.now levels }
 {
     if 1024 < path.len() {
-        return Checked::TooLarge;
+        return Err(PathRefusal::TooLarge);
     }
-    if path.len() == 0 {
-        return Checked::Bad { place: 0 };
-    }
-    if path[0] != 36 {
-        return Checked::Bad { place: 0 };
+    if path.is_empty() || path[0] != b'$' {
+        return Err(PathRefusal::Bad { place: 0 });
     }
     let mut at: usize = 1;
     let mut big = false;
     let mut steps: usize = 0;
-    loop {
-        let s = read_step(path, at);
-        match s {
-            PathStep::Name {
-                start: _,
-                end: _,
-                next,
-            } => {
-                at = next;
-            }
+    while let Some(step) = read_step(path, at)? {
+        match step {
+            PathStep::Name { next, .. } => at = next,
             PathStep::Number { value, next } => {
-                if 16777215 < value {
-                    big = true;
-                }
+                big = big || 16777215 < value;
                 at = next;
-            }
-            PathStep::End => {
-                return limits(big, steps, levels);
-            }
-            PathStep::Refused { place } => {
-                return Checked::Bad { place };
             }
         }
         steps += 1;
     }
+    check_limits(big, steps, levels)
 }

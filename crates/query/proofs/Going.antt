@@ -1,29 +1,30 @@
 -- Where the walk along a path stands: the walk from here is the walk from the start, and the selectors that are left are those read from here on.
-use Prim.Native.Nat.{ℕ, zero, suc, ◌+◌, ◌≤◌, min}
+use Prim.Native.Nat.{ℕ, zero, suc, ◌+◌, ◌-◌, ◌≤◌, min}
 use mathlib.Core.Path.{◌≡◌, refl, sym, ap, ◌∙◌, subst}
 use mathlib.Core.Bool.{Bool, true, false, ◌||◌}
 use mathlib.Core.List.{List, [], ◌∷◌}
 use native.Mathlib.Omega.{arith}
 use lib.Dec.{eqb, ltb}
-use lib.ListN.{length, get_or}
+use lib.ListN.{length, get_or, take, drop}
 use borrow.Author.Tests.{ltb-false}
 use Rattle.rules.specs.Word.{pick}
 use Rattle.rules.proofs.Booleans.{impossible}
 use Rattle.paths.specs.Places.{byte_in, between}
 use Rattle.paths.specs.Grammar.{Selector, name, number}
-use Rattle.paths.specs.Path.{step_at, Reading, good, bad, before, read_from, read_path, large}
+use Rattle.paths.specs.Path.{Step, step_at, Reading, good, bad, before, read_from, read_path, large}
 use Rattle.paths.specs.Helpers.{told, path_check}
 use Rattle.query.specs.Items.{lent}
 use Rattle.query.specs.Walk.{name_step, number_step, step_by, walk_from}
-use Rattle.query.specs.declared.bits.Shape.{Shape}
+use Rattle.layout.specs.declared.Shape.{Shape}
 use Rattle.paths.specs.declared.PathStep.{PathStep}
 use Rattle.paths.specs.declared.PathStep.TheVariants as Kind
-use Rattle.paths.specs.declared.Checked.TheVariants.{Fine}
+use Rattle.std.proofs.Common.{Some, Ok}
 use Rattle.query.specs.declared.types.Refusal.{Refusal}
-use Rattle.query.specs.declared.types.Answer.TheVariants.{Found, Refused}
+use Rattle.query.specs.Answer.{Found, Refused}
 use Rattle.paths.proofs.PathLaws.{name_told, number_told}
 use Rattle.paths.proofs.Checking.{read_name, read_number, fits_fine}
 use Rattle.query.proofs.Inside.{InRecord, step_in}
+use Rattle.paths.proofs.PlaceLaws.{between_is}
 
 pub record Going (text words : List ℕ) (s : Shape) (path : List ℕ) (from to a e at k : ℕ) : Type 0 where
   pub fuel : ℕ
@@ -38,7 +39,7 @@ pub record Going (text words : List ℕ) (s : Shape) (path : List ℕ) (from to 
   pub inside : e ≤ length text
 
 -- a path that was found fine begins with `$`
-pub going_start : {text words : List ℕ} {s : Shape} {path : List ℕ} {from to : ℕ} → from ≤ to → to ≤ length text → path_check path s.levels ≡ Fine
+pub going_start : {text words : List ℕ} {s : Shape} {path : List ℕ} {from to : ℕ} → from ≤ to → to ≤ length text → path_check path s.levels ≡ Ok tt
     → Going text words s path from to from to 1 1
 unfolding read_path
 going_start {text} {words} {s} {path} {from} {to} o i h =
@@ -72,13 +73,13 @@ next : {path : List ℕ} {x : ℕ} {one : Selector} {left : List Selector} (c : 
 next c (good ss) q e = record { fuel = c; rest = ss; is = cc; reads = q }
 next c (bad p) q e = impossible (cc)
 
-next_name : {path : List ℕ} (at : ℕ) {b f x : ℕ} {left : List Selector} (c : ℕ) → read_from c path at ≡ good left → step_at path at ≡ Kind.Name b f x
+next_name : {path : List ℕ} (at : ℕ) {b f x : ℕ} {left : List Selector} (c : ℕ) → read_from c path at ≡ good left → step_at path at ≡ Step.Name b f x
     → Next path x (name (between (byte_in path) b f)) left
 unfolding read_from
 next_name at zero r e = impossible (cc)
 next_name {path} at {b} {f} {x} (suc c) r e = next c (read_from c path x) refl (sym (read_name path at c e) ∙ r)
 
-next_number : {path : List ℕ} (at : ℕ) {v x : ℕ} {left : List Selector} (c : ℕ) → read_from c path at ≡ good left → step_at path at ≡ Kind.Number v x → Next path x (number v) left
+next_number : {path : List ℕ} (at : ℕ) {v x : ℕ} {left : List Selector} (c : ℕ) → read_from c path at ≡ good left → step_at path at ≡ Step.Number v x → Next path x (number v) left
 unfolding read_from
 next_number at zero r e = impossible (cc)
 next_number {path} at {v} {x} (suc c) r e = next c (read_from c path x) refl (sym (read_number path at c e) ∙ r)
@@ -130,22 +131,26 @@ module _ {text words : List ℕ} {s : Shape} {path : List ℕ} {from to a e at k
     stopped q ss r = g.same ss r ∙ rw (n.is, q)
 
   -- by a name
-  module _ {b f x : ℕ} (t : told (step_at path at) ≡ Kind.Name b f x) where
+  module _ {b f x : ℕ} (t : told (step_at path at) ≡ Ok (Some (Kind.Name b f x))) where
     named : Next path x (name (between (byte_in path) b f)) g.left
     named = next_name at g.fuel g.reads (name_told path at t).0
 
     pub level_name : k ≤ s.levels
     level_name = level_in named
 
-    pub going_name : {c d : ℕ} → name_step (byte_in text) (lent words s.levels s.width) k (between (byte_in path) b f) a e ≡ Found c d → Going text words s path from to c d x (k + 1)
-    going_name q = found named q
+    -- the name as the code has it, a part of the path
+    slice : take (f - b) (drop b path) ≡ between (byte_in path) b f
+    slice = let n = name_told path at t in sym (between_is path b f (omega arith))
 
-    pub stop_name : {why : Refusal} → name_step (byte_in text) (lent words s.levels s.width) k (between (byte_in path) b f) a e ≡ Refused why
+    pub going_name : {c d : ℕ} → name_step (byte_in text) (lent words s.levels s.width) k (take (f - b) (drop b path)) a e ≡ Found c d → Going text words s path from to c d x (k + 1)
+    going_name q = found named (rw slice at q)
+
+    pub stop_name : {why : Refusal} → name_step (byte_in text) (lent words s.levels s.width) k (take (f - b) (drop b path)) a e ≡ Refused why
         → (ss : List Selector) → read_path path ≡ good ss → walk_from (byte_in text) (lent words s.levels s.width) 1 ss from to ≡ Refused why
-    stop_name q = stopped named q
+    stop_name q = stopped named (rw slice at q)
 
   -- by a number, which is small, so that the code holds it
-  module _ {m x : ℕ} (t : told (step_at path at) ≡ Kind.Number m x) where
+  module _ {m x : ℕ} (t : told (step_at path at) ≡ Ok (Some (Kind.Number m x))) where
     numbered : Next path x (number m) g.left
     numbered =
         let h = number_told path at t in
@@ -165,14 +170,14 @@ module _ {text words : List ℕ} {s : Shape} {path : List ℕ} {from to a e at k
     stop_number q = stopped numbered q
 
   -- no step is left
-  pub stop_end : ((b f x : ℕ) → told (step_at path at) ≡ Kind.Name b f x → ⊥) → ((m x : ℕ) → told (step_at path at) ≡ Kind.Number m x → ⊥)
+  pub stop_end : ((st : PathStep) → told (step_at path at) ≡ Ok (Some st) → ⊥)
       → (ss : List Selector) → read_path path ≡ good ss → walk_from (byte_in text) (lent words s.levels s.width) 1 ss from to ≡ Found a e
   unfolding read_from walk_from told
-  stop_end no_name no_number ss r = g.same ss r ∙ ap (λ (l : List Selector). walk_from (byte_in text) (lent words s.levels s.width) k l a e) (none g.fuel g.reads (step_at path at) refl)
+  stop_end no_step ss r = g.same ss r ∙ ap (λ (l : List Selector). walk_from (byte_in text) (lent words s.levels s.width) k l a e) (none g.fuel g.reads (step_at path at) refl)
     where
-      none : (c : ℕ) → read_from c path at ≡ good g.left → (st : PathStep) → step_at path at ≡ st → g.left ≡ []
+      none : (c : ℕ) → read_from c path at ≡ good g.left → (st : Step) → step_at path at ≡ st → g.left ≡ []
       none zero r st q = impossible (cc)
-      none (suc c) r (Kind.Name b f x) q = absurd (no_name b f x (ap told q))
-      none (suc c) r (Kind.Number v x) q = absurd (no_number (min v 16777216) x (ap told q))
-      none (suc c) r Kind.End q = let e : ◌≡◌ {A = Reading} (good []) (good g.left) = rw q at r in cc
-      none (suc c) r (Kind.Refused p) q = let e : ◌≡◌ {A = Reading} (bad p) (good g.left) = rw q at r in impossible (cc)
+      none (suc c) r (Step.Name b f x) q = absurd (no_step (Kind.Name b f x) (ap told q))
+      none (suc c) r (Step.Number v x) q = absurd (no_step (Kind.Number (min v 16777216) x) (ap told q))
+      none (suc c) r Step.End q = let e : ◌≡◌ {A = Reading} (good []) (good g.left) = rw q at r in cc
+      none (suc c) r (Step.Refused p) q = let e : ◌≡◌ {A = Reading} (bad p) (good g.left) = rw q at r in impossible (cc)

@@ -1,4 +1,5 @@
 -- A found part has at least one byte and lies inside the record. By the tests of the definitions, one after another.
+use Rattle.std.specs.Prelude.{Ok, Err, Some}
 use Prim.Native.Nat.{ℕ, zero, suc, ◌+◌, ◌-◌, ◌≤◌, ◌<◌}
 use mathlib.Core.Bool.{Bool, not, ◌&&◌}
 use mathlib.Core.List.{List, [], ◌∷◌}
@@ -12,7 +13,7 @@ use Rattle.paths.specs.Places.{byte_in, between, first_at}
 use Rattle.paths.specs.Grammar.{Selector, name, number}
 use Rattle.paths.specs.Path.{Reading, good, bad, read_path, large}
 use Rattle.names.specs.Spelling.{matched}
-use Rattle.names.specs.declared.Match.{Match}
+use Rattle.names.specs.Spelling.{Match}
 use Rattle.names.proofs.Comparing.{match_ind}
 use Rattle.query.specs.Items.{Bits, lent, solid, trim_start, trim_end, value_at, quoted, keyed, item_at, or_else, first_item_in, first_item, item_no}
 use Rattle.query.specs.Walk.{on_found, of_item, framed, filled, name_step, number_step, step_by, walk_from, walk}
@@ -21,18 +22,17 @@ use Rattle.query.specs.declared.types.Cause.TheVariants.{NoColon, EmptyValue}
 use Rattle.query.specs.declared.types.Miss.TheVariants.{NoName, NoNumber}
 use Rattle.query.specs.declared.types.Refusal.{Refusal}
 use Rattle.query.specs.declared.types.Refusal.TheVariants.{EmptyRecord, LongRecord, BadLevels, BadBuffer, TooLarge, TooDeep, Missed, Broken}
-use Rattle.query.specs.declared.types.Answer.{Answer}
-use Rattle.query.specs.declared.types.Answer.TheVariants.{Found, Refused}
-use Rattle.query.specs.declared.items.Item.{Item}
-use Rattle.query.specs.declared.items.Item.TheVariants as Items
+use Rattle.query.specs.Answer.{Answer, Refused}
+use Rattle.query.specs.Item.{Item}
+use Rattle.query.specs.Item as Items
 use Rattle.paths.proofs.PlaceLaws.{pick_ind, first_ge, first_le, last_bounds}
 use Rattle.query.proofs.ItemLaws.{framed_long}
 
 -- an item, and an answer, in the first n bytes
 abbrev pub ItemInRecord : ℕ → Item → Type 0
-ItemInRecord n (Items.Found s e) = (s < e) × (e ≤ n)
+ItemInRecord n (Ok (Some part)) = (part.start < part.end) × (part.end ≤ n)
 ItemInRecord n Items.Other = Unit {0}
-ItemInRecord n (Items.Broken why p) = Unit {0}
+ItemInRecord n (Err b) = Unit {0}
 
 abbrev pub InRecord : ℕ → Answer → Type 0
 InRecord n r = on_found r (λ s e. (s < e) × (e ≤ n)) (λ why. Unit {0})
@@ -62,9 +62,9 @@ item_in byte bits k test a e n h =
     (λ _. tt)
 
 or_else_in : (n : ℕ) (it later : Item) → ItemInRecord n it → ItemInRecord n later → ItemInRecord n (or_else it later)
-or_else_in n (Items.Found s e) later i j = i
+or_else_in n (Ok (Some part)) later i j = i
 or_else_in n Items.Other later i j = j
-or_else_in n (Items.Broken why p) later i j = tt
+or_else_in n (Err b) later i j = tt
 
 items_in : (item : ℕ → ℕ → Item) (comma : ℕ → Bool) (n : ℕ) → ((a e : ℕ) → e ≤ n → ItemInRecord n (item a e))
     → (c a e : ℕ) → a ≤ e → e ≤ n → ItemInRecord n (first_item_in item comma c a e)
@@ -84,9 +84,9 @@ item_no_in byte comma n (suc m) a e h l =
 -- ---- steps
 
 pub of_in : (n : ℕ) (none : Refusal) (k : ℕ) (it : Item) → ItemInRecord n it → InRecord n (of_item none k it)
-of_in n none k (Items.Found s e) i = i
+of_in n none k (Ok (Some part)) i = i
 of_in n none k Items.Other i = tt
-of_in n none k (Items.Broken why p) i = tt
+of_in n none k (Err b) i = tt
 
 module _ (byte : ℕ → ℕ) (bits : Bits) (n : ℕ) where
   pub name_in : (k : ℕ) (m : List ℕ) (a e : ℕ) → e ≤ n → InRecord n (name_step byte bits k m a e)
@@ -115,7 +115,7 @@ module _ (byte : ℕ → ℕ) (bits : Bits) (n : ℕ) where
   step_in k (number m) a e h = number_in k m a e h
 
   on_in : (r : Answer) (go : ℕ → ℕ → Answer) → InRecord n r → ((b f : ℕ) → b < f → f ≤ n → InRecord n (go b f)) → InRecord n (on_found r go Refused)
-  on_in (Found b f) go i h = h b f i.0 i.1
+  on_in (Ok part) go i h = h part.start part.end i.0 i.1
   on_in (Refused why) go i h = tt
 
   walk_from_in : (k : ℕ) (ss : List Selector) (a e : ℕ) → a < e → e ≤ n → InRecord n (walk_from byte bits k ss a e)

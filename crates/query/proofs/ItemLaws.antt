@@ -3,15 +3,14 @@ use Prim.Native.Nat.{ℕ, zero, suc, ◌+◌, ◌-◌, ◌≤◌, ◌<◌}
 use mathlib.Core.Path.{◌≡◌, refl, sym, ◌∙◌}
 use mathlib.Core.Bool.{Bool, true, false}
 use native.Mathlib.Omega.{arith}
-use native.Mathlib.Decide.{dec_lt}
-use lib.Dec.{ltb, eqb}
-use borrow.Author.Tests.{ltb-true, lt-ltb, le-ltb, ne_eqb}
+use lib.Dec.{ltb}
+use borrow.Author.Tests.{ltb-true, lt-ltb, le-ltb}
 use Rattle.rules.specs.Word.{pick}
 use Rattle.paths.specs.Places.{first_at, nth_at}
 use Rattle.query.specs.Items.{solid, quoted, item_no}
 use Rattle.query.specs.Walk.{framed, filled}
-use Rattle.query.specs.declared.items.Item.TheVariants.{Other}
-use Rattle.paths.proofs.PlaceLaws.{first_ge, first_at_is, first_all}
+use Rattle.query.specs.Item.{Other}
+use Rattle.paths.proofs.PlaceLaws.{first_ge}
 use Rattle.paths.proofs.PathLaws.{both_true}
 
 -- a quoted part has two bytes
@@ -27,14 +26,6 @@ framed_long byte head tail a e h = ltb-true (a + 1) e (both_true (ltb (a + 1) e)
 pub filled_some : (byte : ℕ → ℕ) (a e : ℕ) → a + 1 < e → filled byte a e ≡ true → a + 1 < e - 1
 unfolding filled
 filled_some byte a e l h = omega (arith, first_ge (solid byte) (a + 1) (e - 1) (omega arith), ltb-true _ (e - 1) h)
-
--- the closing quote is the next set bit
-pub closes_at : (quote : ℕ → Bool) (a z q : ℕ) → a < q → quote (a + z) ≡ true → ((k : ℕ) → a ≤ k → k < a + z → quote k ≡ false) → eqb (a + z + 1) q ≡ eqb (first_at quote a q + 1) q
-closes_at quote a z q l h none = go (dec_lt (a + z) q)
-  where
-    go : Dec (a + z < q) → eqb (a + z + 1) q ≡ eqb (first_at quote a q + 1) q
-    go (yes m) = rw (first_at_is quote a (a + z) q (omega arith) m none h)
-    go (no m) = rw (first_all quote a q (omega arith) (λ k i j. none k i (omega arith)), ne_eqb (a + z + 1) q (omega arith), ne_eqb (q + 1) q (omega arith))
 
 module _ (byte : ℕ → ℕ) (comma : ℕ → Bool) (e : ℕ) where
   item_by : (m a : ℕ) → item_no byte comma (suc m) a e ≡ pick (ltb (nth_at comma m a e) e) (item_no byte comma 0 (nth_at comma m a e + 1) e) Other

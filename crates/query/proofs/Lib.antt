@@ -1,6 +1,6 @@
 -- Laws, for the functions' proofs and for the crates above.
+pub mod Parts
 pub mod Standing
-pub mod Lents
 pub mod ItemLaws
 pub mod Walking
 pub mod Inside

@@ -3,7 +3,7 @@ use Prim.Native.Nat.{ℕ}
 use mathlib.Core.Path.{◌≡◌, sym, ◌∙◌}
 use mathlib.Core.List.{List}
 use Rattle.query.specs.Outcomes.{AnswerGives, QueryGives}
-use Rattle.query.specs.declared.types.Answer.{Answer}
+use Rattle.query.specs.Answer.{Answer}
 
 module _ (text words : List ℕ) (levels : ℕ) (path : List ℕ) where
   pub same_answer : {r q : Answer} → AnswerGives text words levels path r → AnswerGives text words levels path q → r ≡ q

@@ -1,10 +1,11 @@
 -- What is left of a word of a bitmap, from a place on: its bits are the bitmap's, its lowest set bit is the next place, its count is the rest's.
 -- By the bits of a shifted word.
-use Prim.Native.Nat.{ℕ, zero, suc, ◌+◌, ◌-◌, ◌*◌, ◌/◌, ◌%◌, ◌^◌, ◌≤◌, ◌<◌}
+use Prim.Native.Nat.{ℕ, zero, suc, ◌+◌, ◌-◌, ◌*◌, ◌/◌, ◌%◌, ◌^◌, ◌≤◌, ◌<◌, min}
 use mathlib.Core.Path.{◌≡◌, refl, sym, ap, ◌∙◌}
 use mathlib.Core.Bool.{Bool, true, false, true≢false}
 use mathlib.Core.List.{List}
 use native.Mathlib.Omega.{arith}
+use native.Mathlib.Decide.{dec_lt}
 use native.Mathlib.Nat.{zero-div, div-le_self, lt_of_le_of_lt, lt_of_not-le}
 use lib.Pow.{shr_le}
 use lib.Count.{ones, count_trailing_zeros}
@@ -13,6 +14,8 @@ use Rattle.rules.specs.Layout.{Bitmap, cell, bit_in}
 use Rattle.rules.proofs.BitWalk.{bit_shifted, bit_above, lowest}
 use Rattle.rules.proofs.WordLaws.{word_bits, ones_word}
 use Rattle.rules.proofs.Counting.{count_ext, count_cat}
+use Rattle.paths.specs.Places.{first_at}
+use Rattle.paths.proofs.PlaceLaws.{first_at_is, first_all}
 
 -- ---- the bits of a number
 
@@ -111,3 +114,12 @@ module _ (t : ℕ → Bool) (w at x : ℕ) (s : Standing t w at x) where
       let all : ones x ≡ count (bit x) c + count (λ j. bit x (c + j)) d =
       ap ones (sym (word_bits 64 x s.fits)) ∙ ones_word 64 (bit x) ∙ ap (count (bit x)) (sym e) ∙ count_cat (bit x) c d in
       omega (arith, ap (count t) f, count_cat t at c, here, past, all)
+
+-- ---- a place that was found, or the end before it
+
+pub first_min : (t : ℕ → Bool) (a p e : ℕ) → a ≤ p → a ≤ e → t p ≡ true → ((k : ℕ) → a ≤ k → k < p → t k ≡ false) → min e p ≡ first_at t a e
+first_min t a p e h m y none = go (dec_lt p e)
+  where
+    go : Dec (p < e) → min e p ≡ first_at t a e
+    go (yes l) = omega (arith, first_at_is t a p e h l none y)
+    go (no l) = omega (arith, first_all t a e m (λ k i j. none k i (omega arith)))

@@ -1,7 +1,8 @@
 -- The walk over the items of a level, a word of the commas at a time: where it stands, and each way on. "The items from here are the items from
 -- the start" is kept, with the number of items that may be left.
+use Rattle.std.specs.Prelude.{Ok, Err, Some}
 use Prim.Native.Nat.{ℕ, zero, suc, ◌+◌, ◌-◌, ◌*◌, ◌/◌, ◌^◌, ◌≤◌, ◌<◌}
-use mathlib.Core.Path.{◌≡◌, refl, ◌∙◌}
+use mathlib.Core.Path.{◌≡◌, refl, sym, ◌∙◌}
 use mathlib.Core.Bool.{Bool, false}
 use native.Mathlib.Omega.{arith}
 use native.Mathlib.Decide.{dec_lt}
@@ -9,22 +10,24 @@ use lib.Count.{count_trailing_zeros}
 use borrow.Author.Tests.{lt-ltb, le-ltb}
 use Rattle.paths.specs.Places.{first_at}
 use Rattle.query.specs.Items.{or_else, first_item_in, first_item}
-use Rattle.query.specs.declared.items.Item.{Item}
-use Rattle.query.specs.declared.items.Item.TheVariants.{Found, Other, Broken}
+use Rattle.std.specs.declared.ops.Range.{Range}
+use Rattle.query.specs.Item.{Item, Other}
+use Rattle.query.specs.declared.items.Broken.{Broken}
+use Rattle.rules.proofs.Booleans.{impossible}
 use Rattle.paths.proofs.PlaceLaws.{first_at_is, first_all}
 use Rattle.query.proofs.Standing.{Standing, standing_zero, standing_low, standing_shift}
 
 -- ---- the laws of `first_item_in`: another item goes on, one that is found or broken stops, and the last
 
 after_keeps : (it r : Item) → (it ≡ Other → ⊥) → or_else it r ≡ it
-after_keeps (Found s t) r h = refl
+after_keeps (Ok (Some part)) r h = refl
 after_keeps Other r h = absurd (h refl)
-after_keeps (Broken w p) r h = refl
+after_keeps (Err b) r h = refl
 
 after_last : (it : Item) → or_else it Other ≡ it
-after_last (Found s t) = refl
+after_last (Ok (Some part)) = refl
 after_last Other = refl
-after_last (Broken w p) = refl
+after_last (Err b) = refl
 
 module _ (item : ℕ → ℕ → Item) (comma : ℕ → Bool) (e : ℕ) where
   pub items_next : (f a c : ℕ) → first_at comma a e ≡ c → c < e → item a c ≡ Other → first_item_in item comma (suc f) a e ≡ first_item_in item comma f (c + 1) e
@@ -99,13 +102,18 @@ module _ (item : ℕ → ℕ → Item) (t : ℕ → Bool) (lo hi : ℕ) where
     walking_end z l = last_one (comma_none z l)
 
     -- an item that is found or broken
-    pub walking_stop : (x ≡ 0 → ⊥) → at + count_trailing_zeros 64 x < hi → (item start (at + count_trailing_zeros 64 x) ≡ Other → ⊥)
-        → first_item item t lo hi ≡ item start (at + count_trailing_zeros 64 x)
-    walking_stop ne l o = go g.fuel g.enough g.same
+    walking_stop : (r : Item) → (r ≡ Other → ⊥) → (x ≡ 0 → ⊥) → at + count_trailing_zeros 64 x < hi → item start (at + count_trailing_zeros 64 x) ≡ r → first_item item t lo hi ≡ r
+    walking_stop r o ne l i = go g.fuel g.enough g.same
       where
-        go : (f : ℕ) → hi - start < f → first_item item t lo hi ≡ first_item_in item t f start hi → first_item item t lo hi ≡ item start (at + count_trailing_zeros 64 x)
+        go : (f : ℕ) → hi - start < f → first_item item t lo hi ≡ first_item_in item t f start hi → first_item item t lo hi ≡ r
         go zero n e = absurd (omega arith)
-        go (suc f) n e = e ∙ items_stop item t hi f start (at + count_trailing_zeros 64 x) (comma_here ne l) o
+        go (suc f) n e = e ∙ items_stop item t hi f start (at + count_trailing_zeros 64 x) (comma_here ne l) (λ q. o (sym i ∙ q)) ∙ i
+
+    pub walking_found : {part : Range ℕ} → (x ≡ 0 → ⊥) → at + count_trailing_zeros 64 x < hi → item start (at + count_trailing_zeros 64 x) ≡ Ok (Some part) → first_item item t lo hi ≡ Ok (Some part)
+    walking_found = walking_stop (Ok (Some _)) (λ q. impossible (cc))
+
+    pub walking_broken : {broken : Broken} → (x ≡ 0 → ⊥) → at + count_trailing_zeros 64 x < hi → item start (at + count_trailing_zeros 64 x) ≡ Err broken → first_item item t lo hi ≡ Err broken
+    walking_broken = walking_stop (Err _) (λ q. impossible (cc))
 
     -- past an item that is another's
     pub walking_next : (x ≡ 0 → ⊥) → at + count_trailing_zeros 64 x < hi → item start (at + count_trailing_zeros 64 x) ≡ Other

@@ -1,24 +1,25 @@
--- What the contracts of private functions cite, and no public one: which bits can be read.
-use Rattle.std.specs.Prelude.{ℕ, ◌+◌, ◌*◌, ◌≤◌, ◌≡◌, List, length}
-use Rattle.rules.specs.Layout.{Has}
+-- What the contracts of private functions and the types cite, and no public function: the bits of the words that are lent with a record, and a path's refusal.
+use Rattle.std.specs.Prelude.{ℕ, Bool}
+use Rattle.rules.specs.Layout.{bit_in}
 use Rattle.layout.specs.declared.Map.{Map}
 use Rattle.layout.specs.Maps.{mapped}
-use Rattle.query.specs.declared.bits.Shape.{Shape}
+use Rattle.query.specs.Items.{Bits, lent}
+use Rattle.query.specs.declared.bits.Lent.{Lent}
+use Rattle.query.specs.declared.types.Refusal.{Refusal}
+use Rattle.query.specs.declared.types.Refusal.TheVariants.{BadPath, TooLarge, TooDeep}
+use Rattle.paths.specs.declared.PathRefusal.{PathRefusal}
+use Rattle.paths.specs.declared.PathRefusal.TheVariants as Paths
 
--- as many words as the shape says
-abbrev pub Long : List ℕ → Shape → Type 0
-Long words s = length words ≡ (2 + 2 * s.levels) * s.width
+-- the bit of a place in a bitmap
+abbrev pub bit_at : Lent → Map → ℕ → Bool
+bit_at l m = bit_in l.words.now l.shape.levels l.shape.width (mapped m)
 
--- the places below e lie in the words of the bitmap
-pub record Readable (s : Shape) (m : Map) (e : ℕ) : Type 0 where
-  pub levels : s.levels ≤ 16
-  pub width : s.width ≤ 262144
-  pub has : Has s.levels (mapped m)
-  pub inside : e ≤ 64 * s.width
+-- what a walk asks of them
+abbrev pub bits_of : Lent → Bits
+bits_of l = lent l.words.now l.shape.levels l.shape.width
 
--- the words are those of the record
-pub record Shaped (text words : List ℕ) (s : Shape) : Type 0 where
-  pub levels : s.levels ≤ 16
-  pub width : s.width ≤ 262144
-  pub long : Long words s
-  pub inside : length text ≤ 64 * s.width
+-- a path's refusal is a query's
+abbrev pub path_refusal : PathRefusal → Refusal
+path_refusal (Paths.Bad p) = BadPath p
+path_refusal Paths.TooLarge = TooLarge
+path_refusal Paths.TooDeep = TooDeep

@@ -1,13 +1,11 @@
 -- Blanks, values, and the items that a step takes: section 'Paths', over bytes and bits as functions of a place.
-use Rattle.std.specs.Prelude.{ℕ, zero, suc, ◌+◌, ◌-◌, Bool, not, ◌&&◌, ◌||◌, List, ltb, eqb}
+use Rattle.std.specs.Prelude.{ℕ, zero, suc, Ok, Err, Some, ◌+◌, ◌-◌, Bool, not, ◌&&◌, ◌||◌, List, ltb, eqb}
 use Rattle.rules.specs.Word.{pick}
 use Rattle.rules.specs.Layout.{quotes, colons, commas, bit_in}
 use Rattle.paths.specs.Places.{between, first_at, past_last}
-use Rattle.names.specs.Spelling.{on_match}
-use Rattle.names.specs.declared.Match.{Match}
+use Rattle.names.specs.Spelling.{on_match, Match}
 use Rattle.query.specs.declared.types.Cause.TheVariants.{NoColon, BadName, EmptyValue, BadEscape}
-use Rattle.query.specs.declared.items.Item.{Item}
-use Rattle.query.specs.declared.items.Item.TheVariants.{Found, Other, Broken}
+use Rattle.query.specs.Item.{Item, Found, Other, Broken}
 
 -- what a walk asks of the words: quote bits, and the colon and comma bits of a level
 pub record Bits : Type 0 where
@@ -63,9 +61,9 @@ item_at byte bits k test a e =
 
 -- another item goes on, one that is found or broken stops
 abbrev pub or_else : Item → Item → Item
-or_else (Found s e) later = Found s e
+or_else (Ok (Some part)) later = Ok (Some part)
 or_else Other later = later
-or_else (Broken why p) later = Broken why p
+or_else (Err b) later = Err b
 
 -- of at most so many items
 unfoldable pub first_item_in : (ℕ → ℕ → Item) → (ℕ → Bool) → ℕ → ℕ → ℕ → Item

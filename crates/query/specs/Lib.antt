@@ -1,3 +1,5 @@
+pub mod Answer
+pub mod Item
 pub mod Items
 pub mod Helpers
 pub mod Walk

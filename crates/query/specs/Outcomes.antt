@@ -1,7 +1,7 @@
 -- What the contracts of `answer` and `query` say. (proofs/Outcomes.antt: each allows one outcome only.)
 use Rattle.std.specs.Prelude.{ℕ, ◌+◌, ◌≡◌, List}
 use Rattle.query.specs.Answers.{answer_of, number_of, place_of, step_of, start_of, part_of}
-use Rattle.query.specs.declared.types.Answer.{Answer}
+use Rattle.query.specs.Answer.{Answer}
 
 abbrev pub AnswerGives : List ℕ → List ℕ → ℕ → List ℕ → Answer → Type 0
 AnswerGives text words levels path r = r ≡ answer_of text words levels path

@@ -1,5 +1,5 @@
 -- The walk: section 'Paths', step after step, over the record's bytes and any bits.
-use Rattle.std.specs.Prelude.{ℕ, ◌+◌, ◌-◌, Bool, ◌&&◌, List, [], ◌∷◌, length, ltb, eqb}
+use Rattle.std.specs.Prelude.{ℕ, Ok, Err, Some, ◌+◌, ◌-◌, Bool, ◌&&◌, List, [], ◌∷◌, length, ltb, eqb}
 use Rattle.rules.specs.Word.{pick}
 use Rattle.paths.specs.Places.{byte_in}
 use Rattle.paths.specs.Grammar.{Selector, name, number}
@@ -9,21 +9,20 @@ use Rattle.query.specs.declared.types.Cause.TheVariants.{EmptyValue}
 use Rattle.query.specs.declared.types.Miss.TheVariants.{NotObject, NotArray, NoName, NoNumber}
 use Rattle.query.specs.declared.types.Refusal.{Refusal}
 use Rattle.query.specs.declared.types.Refusal.TheVariants.{Missed, Broken}
-use Rattle.query.specs.declared.types.Answer.{Answer}
-use Rattle.query.specs.declared.types.Answer.TheVariants.{Found, Refused}
-use Rattle.query.specs.declared.items.Item.{Item}
-use Rattle.query.specs.declared.items.Item.TheVariants as Items
+use Rattle.query.specs.Answer.{Answer, Found, Refused}
+use Rattle.query.specs.Item.{Item}
+use Rattle.query.specs.Item as Items
 
 -- by whether a part was found
 abbrev pub on_found {ℓ} : {A : Type ℓ} → Answer → (ℕ → ℕ → A) → (Refusal → A) → A
-on_found (Found s e) found refused = found s e
+on_found (Ok part) found refused = found part.start part.end
 on_found (Refused why) found refused = refused why
 
 -- what an item answers in step number k, and what it means that there is none
 abbrev pub of_item : Refusal → ℕ → Item → Answer
-of_item none k (Items.Found s e) = Found s e
+of_item none k (Ok (Some part)) = Ok part
 of_item none k Items.Other = Refused none
-of_item none k (Items.Broken why p) = Refused (Broken why k p)
+of_item none k (Err b) = Refused (Broken b.why k b.place)
 
 -- "needs `{` first and `}` last", or "`[` and `]`"; "a value shorter than two bytes is 23 or 24"
 unfoldable pub framed : (ℕ → ℕ) → ℕ → ℕ → ℕ → ℕ → Bool

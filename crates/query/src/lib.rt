@@ -3,8 +3,9 @@
 
 ghost use Rattle.query.specs.Outcomes.{AnswerGives, QueryGives};
 
-use layout::{size_of, width_of};
-use types::{Answer, Refusal};
+use bits::Lent;
+use layout::{Shape, size_of};
+use types::{Answer, Refusal, Tells};
 
 mod bits;
 pub mod blanks;
@@ -13,36 +14,31 @@ pub mod types;
 mod walk;
 
 // What a path selects in a record, by the words lent with it. Any record, words, levels and path.
+#[tactic(auto, using(crate::proofs::Answering::passed), unfolding(crate::specs::Answers::answer_of, rules::specs::Layout::size_of, rules::specs::Layout::width_of))]
 pub fn answer(text: &[u8], words: &[u64], levels: usize, path: &[u8]) -> Answer
     ensures { AnswerGives text.now words.now levels path.now result }
 {
-    if text.len() == 0 {
-        return Answer::Refused(Refusal::EmptyRecord);
+    if text.is_empty() {
+        return Err(Refusal::EmptyRecord);
     }
     if 16777216 < text.len() {
-        return Answer::Refused(Refusal::LongRecord);
+        return Err(Refusal::LongRecord);
     }
-    if levels == 0 {
-        return Answer::Refused(Refusal::BadLevels);
-    }
-    if 16 < levels {
-        return Answer::Refused(Refusal::BadLevels);
+    if levels == 0 || 16 < levels {
+        return Err(Refusal::BadLevels);
     }
     if words.len() != size_of(levels, text.len()) {
-        return Answer::Refused(Refusal::BadBuffer);
+        return Err(Refusal::BadBuffer);
     }
-    let width = width_of(text.len());
-    let checked = paths::check_path(path, levels);
-    match checked {
-        paths::Checked::Bad { place } => Answer::Refused(Refusal::BadPath { place }),
-        paths::Checked::TooLarge => Answer::Refused(Refusal::TooLarge),
-        paths::Checked::TooDeep => Answer::Refused(Refusal::TooDeep),
-        paths::Checked::Fine => walk::walk_record(text, words, bits::Shape { levels, width }, path),
-    }
+    let shape = Shape::new(levels, text.len());
+    let lent = Lent { text, words, shape };
+    paths::check_path(path, levels)?;
+    lent.walk_record(path)
 }
 
 // The part of the lent record itself that a path selects, the empty part at its start on refusal; and the number, the place and
-// the step.
+// the step. These three are told through references, beside the part: a caller gets a part of its own record whatever the answer
+// (`QueryGives`; a rule of the project, and what the interface for C rests on). `answer` tells the same as a `Result`.
 pub fn query<'a>(
     text: &'a [u8],
     words: &[u64],
@@ -59,7 +55,7 @@ pub fn query<'a>(
     *place = told.place();
     *step = told.step();
     match told {
-        Answer::Found { start, end } => &text[start..end],
-        Answer::Refused(_) => &text[..0],
+        Ok(part) => &text[part],
+        Err(_) => &text[..0],
     }
 }

@@ -1,27 +1,30 @@
 // What a query tells, and the number, step and place of each case.
-ghost use Rattle.std.specs.Prelude.{◌≡◌};
+ghost use Rattle.std.specs.Prelude.{◌≡◌, ℕ};
 ghost use Rattle.query.specs.Answers.{miss_number, cause_number, refusal_number, refusal_place, refusal_step, number_of, place_of, step_of};
 
-// Why a step finds nothing in its value: 23 to 26.
-#[derive(Clone, Copy)]
+use paths::PathRefusal;
+use std::ops::Range;
+
+// Why a step finds nothing in its value, by its number.
+#[derive(Clone, Copy, Debug, PartialEq, Eq)]
 pub enum Miss {
-    NotObject,
-    NotArray,
-    NoName,
-    NoNumber,
+    NotObject = 23,
+    NotArray = 24,
+    NoName = 25,
+    NoNumber = 26,
 }
 
-// What is wrong with a broken item, or with a record that is blank all through: 27 to 30.
-#[derive(Clone, Copy)]
+// What is wrong with a broken item, or with a record that is blank all through, by its number.
+#[derive(Clone, Copy, Debug, PartialEq, Eq)]
 pub enum Cause {
-    NoColon,
-    BadName,
-    EmptyValue,
-    BadEscape,
+    NoColon = 27,
+    BadName = 28,
+    EmptyValue = 29,
+    BadEscape = 30,
 }
 
 // Why there is no part. A miss and a broken item tell the path step, from 1, and a place in the record.
-#[derive(Clone, Copy)]
+#[derive(Clone, Copy, Debug, PartialEq, Eq)]
 pub enum Refusal {
     EmptyRecord,
     LongRecord,
@@ -44,23 +47,28 @@ pub enum Refusal {
     },
 }
 
-// Where the part lies in the record, end not included, or why there is none.
-#[derive(Clone, Copy)]
-pub enum Answer {
-    Found { start: usize, end: usize },
-    Refused(Refusal),
+impl From<PathRefusal> for Refusal {
+    ghost use Rattle.query.specs.Helpers.{path_refusal};
+
+    ghost from_gives = { λ why refusal. refusal ≡ path_refusal why };
+
+    fn from(why: PathRefusal) -> Refusal {
+        match why {
+            PathRefusal::Bad { place } => Refusal::BadPath { place },
+            PathRefusal::TooLarge => Refusal::TooLarge,
+            PathRefusal::TooDeep => Refusal::TooDeep,
+        }
+    }
 }
+
+// Where the part lies in the record, end not included, or why there is none.
+pub type Answer = Result<Range<usize>, Refusal>;
 
 impl Miss {
     pub fn number(self) -> u64
         ensures { result ≡ miss_number self }
     {
-        match self {
-            Miss::NotObject => 23,
-            Miss::NotArray => 24,
-            Miss::NoName => 25,
-            Miss::NoNumber => 26,
-        }
+        self as u64
     }
 }
 
@@ -68,12 +76,7 @@ impl Cause {
     pub fn number(self) -> u64
         ensures { result ≡ cause_number self }
     {
-        match self {
-            Cause::NoColon => 27,
-            Cause::BadName => 28,
-            Cause::EmptyValue => 29,
-            Cause::BadEscape => 30,
-        }
+        self as u64
     }
 }
 
@@ -86,19 +89,11 @@ impl Refusal {
             Refusal::LongRecord => 2,
             Refusal::BadLevels => 3,
             Refusal::BadBuffer => 4,
-            Refusal::BadPath { place: _ } => 20,
+            Refusal::BadPath { .. } => 20,
             Refusal::TooLarge => 21,
             Refusal::TooDeep => 22,
-            Refusal::Missed {
-                why,
-                step: _,
-                place: _,
-            } => why.number(),
-            Refusal::Broken {
-                why,
-                step: _,
-                place: _,
-            } => why.number(),
+            Refusal::Missed { why, .. } => why.number(),
+            Refusal::Broken { why, .. } => why.number(),
         }
     }
 
@@ -106,23 +101,10 @@ impl Refusal {
         ensures { result ≡ refusal_place self }
     {
         match self {
-            Refusal::EmptyRecord => 0,
-            Refusal::LongRecord => 0,
-            Refusal::BadLevels => 0,
-            Refusal::BadBuffer => 0,
-            Refusal::BadPath { place } => place,
-            Refusal::TooLarge => 0,
-            Refusal::TooDeep => 0,
-            Refusal::Missed {
-                why: _,
-                step: _,
-                place,
-            } => place,
-            Refusal::Broken {
-                why: _,
-                step: _,
-                place,
-            } => place,
+            Refusal::BadPath { place }
+            | Refusal::Missed { place, .. }
+            | Refusal::Broken { place, .. } => place,
+            _ => 0,
         }
     }
 
@@ -130,54 +112,57 @@ impl Refusal {
         ensures { result ≡ refusal_step self }
     {
         match self {
-            Refusal::EmptyRecord => 0,
-            Refusal::LongRecord => 0,
-            Refusal::BadLevels => 0,
-            Refusal::BadBuffer => 0,
-            Refusal::BadPath { place: _ } => 0,
-            Refusal::TooLarge => 0,
-            Refusal::TooDeep => 0,
-            Refusal::Missed {
-                why: _,
-                step,
-                place: _,
-            } => step,
-            Refusal::Broken {
-                why: _,
-                step,
-                place: _,
-            } => step,
+            Refusal::Missed { step, .. } | Refusal::Broken { step, .. } => step,
+            _ => 0,
         }
     }
 }
 
-impl Answer {
-    pub fn number(self) -> u64
-        ensures { result ≡ number_of self }
-    {
-        match self {
-            Answer::Found { start: _, end: _ } => 0,
-            Answer::Refused(why) => why.number(),
-        }
-    }
+// The number, the place and the step that an answer tells.
+pub trait Tells {
+    ghost number_of: { Self → ℕ };
+
+    ghost place_of: { Self → ℕ };
+
+    ghost step_of: { Self → ℕ };
+
+    fn number(&self) -> u64
+        ensures { result ≡ number_of self.now };
 
     // Where the part begins, or the place that the refusal tells.
-    pub fn place(self) -> usize
-        ensures { result ≡ place_of self }
-    {
+    fn place(&self) -> usize
+        ensures { result ≡ place_of self.now };
+
+    // The path step that a miss or a broken item tells; else 0.
+    fn step(&self) -> usize
+        ensures { result ≡ step_of self.now };
+}
+
+impl Tells for Answer {
+    ghost number_of = { number_of };
+
+    ghost place_of = { place_of };
+
+    ghost step_of = { step_of };
+
+    fn number(&self) -> u64 {
         match self {
-            Answer::Found { start, end: _ } => start,
-            Answer::Refused(why) => why.place(),
+            Ok(_) => 0,
+            Err(why) => why.number(),
         }
     }
 
-    // The path step that a miss or a broken item tells; else 0.
-    pub fn step(self) -> usize
-        ensures { result ≡ step_of self }
-    {
+    fn place(&self) -> usize {
         match self {
-            Answer::Found { start: _, end: _ } => 0,
-            Answer::Refused(why) => why.step(),
+            Ok(part) => part.start,
+            Err(why) => why.place(),
+        }
+    }
+
+    fn step(&self) -> usize {
+        match self {
+            Ok(_) => 0,
+            Err(why) => why.step(),
         }
     }
 }

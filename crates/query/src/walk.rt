@@ -1,182 +1,143 @@
 // The steps of a path, one after another, from the record without blanks at its ends.
 ghost use Rattle.std.specs.Prelude.{◌≡◌, List, ◌+◌, ◌<◌, ◌≤◌, length};
 ghost use Rattle.paths.specs.Helpers.{path_check};
-ghost use Rattle.query.specs.Helpers.{Shaped};
-ghost use Rattle.paths.specs.declared.Checked.TheVariants.{Fine};
 ghost use Rattle.paths.specs.Grammar.{Selector};
 ghost use Rattle.paths.specs.Path.{read_path, good};
-ghost use Rattle.paths.specs.Places.{byte_in, between};
-ghost use Rattle.query.specs.Items.{lent};
-ghost use Rattle.query.specs.declared.types.Answer.TheVariants.{Refused};
-ghost use Rattle.query.specs.declared.types.Refusal.TheVariants.{Missed};
+ghost use Rattle.paths.specs.Places.{byte_in};
 ghost use Rattle.query.specs.Walk.{of_item, framed, filled, name_step, number_step, walk_from, walk};
 
-use crate::bits::Shape;
-use crate::items::Item;
-use crate::types::{Answer, Cause, Miss, Refusal};
+use crate::bits::Lent;
+use crate::items::{Broken, Item};
+use crate::types::{Answer, Miss, Refusal};
 use crate::{blanks, items};
 use paths::PathStep;
-
-// From a to e: at least two bytes, with these at its ends.
-fn is_framed(text: &[u8], head: u8, tail: u8, a: usize, e: usize) -> bool
-    requires { (a ≤ e) × (e ≤ length text.now) }
-    ensures { result ≡ framed (byte_in text.now) head tail a e }
-{
-    if e <= a + 1 {
-        return false;
-    }
-    if text[a] != head {
-        return false;
-    }
-    text[e - 1] == tail
-}
-
-// What lies between the ends is more than blanks.
-fn is_filled(text: &[u8], a: usize, e: usize) -> bool
-    requires { (a + 1 < e) × (e ≤ length text.now) }
-    ensures { result ≡ filled (byte_in text.now) a e }
-{
-    blanks::skip_blanks(text, a + 1, e - 1) < e - 1
-}
+use std::ops::Range;
 
 // Step number k finds nothing in the value that begins at a.
-fn missed(why: Miss, k: usize, a: usize) -> Answer
-    ensures { result ≡ Refused (Missed why k a) }
+fn missed(why: Miss, k: usize, a: usize) -> Refusal
+    ensures { result ≡ Refusal.Missed why k a }
 {
-    Answer::Refused(Refusal::Missed {
+    Refusal::Missed {
         why,
         step: k,
         place: a,
-    })
+    }
+}
+
+// Step number k comes upon a broken item.
+fn broken_in(k: usize, broken: Broken) -> Refusal
+    ensures { result ≡ Refusal.Broken broken.why k broken.place }
+{
+    Refusal::Broken {
+        why: broken.why,
+        step: k,
+        place: broken.place,
+    }
 }
 
 // What an item answers in that step, and what it means that there is none.
 fn of_item(none: Miss, k: usize, a: usize, item: Item) -> Answer
-    ensures { result ≡ of_item (Missed none k a) k item }
+    ensures { result ≡ of_item (Refusal.Missed none k a) k item }
 {
-    match item {
-        Item::Found { start, end } => Answer::Found { start, end },
-        Item::Other => missed(none, k, a),
-        Item::Broken { why, place } => Answer::Refused(Refusal::Broken {
-            why,
-            step: k,
-            place,
-        }),
-    }
+    let found = item.map_err(|broken| broken_in(k, broken))?;
+    found.ok_or(missed(none, k, a))
 }
 
-// The step number k, by the name b to f of the path, in the value from a to e.
-fn name_step(
-    text: &[u8],
-    words: &[u64],
-    s: Shape,
-    k: usize,
-    path: &[u8],
-    b: usize,
-    f: usize,
-    a: usize,
-    e: usize,
-) -> Answer
-    requires shaped { Shaped text.now words.now s }
-    requires le_k { (1 ≤ k) × (k ≤ s.levels) }
-    requires a_le_e { (a ≤ e) × (e ≤ length text.now) × (b ≤ f) × (f ≤ length path.now) }
-    ensures { result ≡ name_step (byte_in text.now) (lent words.now s.levels s.width) k (between (byte_in path.now) b f) a e }
-{
-    if !is_framed(text, 123, 125, a, e) {
-        return missed(Miss::NotObject, k, a);
-    }
-    if !is_filled(text, a, e) {
-        return missed(Miss::NoName, k, a);
-    }
-    let item = items::find_name(text, words, s, k, path, b, f, a + 1, e - 1);
-    of_item(Miss::NoName, k, a, item)
-}
+impl<'a> Lent<'a> {
+    ghost use Rattle.query.specs.Helpers.{bits_of};
 
-// The step number k, by the number m, in the value from a to e.
-fn number_step(
-    text: &[u8],
-    words: &[u64],
-    s: Shape,
-    k: usize,
-    m: usize,
-    a: usize,
-    e: usize,
-) -> Answer
-    requires shaped { Shaped text.now words.now s }
-    requires le_k { (1 ≤ k) × (k ≤ s.levels) }
-    requires a_le_e { (a ≤ e) × (e ≤ length text.now) }
-    ensures { result ≡ number_step (byte_in text.now) (lent words.now s.levels s.width) k m a e }
-{
-    if !is_framed(text, 91, 93, a, e) {
-        return missed(Miss::NotArray, k, a);
+    // From a to e: at least two bytes, with these at its ends.
+    #[tactic(auto, unfolding(crate::specs::Walk::framed, paths::specs::Places::byte_in))]
+    fn is_framed(&self, head: u8, tail: u8, a: usize, e: usize) -> bool
+        requires { (a ≤ e) × (e ≤ length self.now.text.now) }
+        ensures { result ≡ framed (byte_in self.now.text.now) head tail a e }
+    {
+        a + 1 < e && self.text[a] == head && self.text[e - 1] == tail
     }
-    if !is_filled(text, a, e) {
-        return missed(Miss::NoNumber, k, a);
-    }
-    let item = items::item_no(text, words, s, k, m, a + 1, e - 1);
-    of_item(Miss::NoNumber, k, a, item)
-}
 
-// All steps of a path that was checked, from the value of `$` on.
-fn walk_path(text: &[u8], words: &[u64], s: Shape, path: &[u8], from: usize, to: usize) -> Answer
-    requires shaped { Shaped text.now words.now s }
-    requires from_le_to { (from ≤ to) × (to ≤ length text.now) }
-    requires levels_value { path_check path.now s.levels ≡ Fine }
-    ensures { (ss : List Selector) → read_path path.now ≡ good ss → result ≡ walk_from (byte_in text.now) (lent words.now s.levels s.width) 1 ss from to }
-{
-    let mut a = from;
-    let mut e = to;
-    let mut at: usize = 1;
-    let mut k: usize = 1;
-    loop {
-        let step = paths::read_step(path, at);
-        let PathStep::Name {
-            start: b,
-            end: f,
-            next: after,
-        } = step
-        else {
-            let PathStep::Number {
-                value: m,
-                next: behind,
-            } = step
-            else {
-                return Answer::Found { start: a, end: e };
+    // What lies between the ends is more than blanks.
+    #[tactic(auto, unfolding(crate::specs::Walk::filled))]
+    fn is_filled(&self, a: usize, e: usize) -> bool
+        requires { (a + 1 < e) × (e ≤ length self.now.text.now) }
+        ensures { result ≡ filled (byte_in self.now.text.now) a e }
+    {
+        blanks::skip_blanks(self.text, a + 1, e - 1) < e - 1
+    }
+
+    // The step number k, by a name, in the value from a to e. (It and the step by a number stay two: their brackets, both misses and the
+    // search differ, and one function would take all of these.)
+    #[tactic(auto, using(crate::proofs::ItemLaws::framed_long, crate::proofs::ItemLaws::filled_some), unfolding(crate::specs::Walk::name_step))]
+    fn name_step(&self, k: usize, name: &[u8], a: usize, e: usize) -> Answer
+        requires le_k { (1 ≤ k) × (k ≤ self.now.shape.levels) }
+        requires a_le_e { (a ≤ e) × (e ≤ length self.now.text.now) }
+        ensures { result ≡ name_step (byte_in self.now.text.now) (bits_of self.now) k name.now a e }
+    {
+        if !self.is_framed(b'{', b'}', a, e) {
+            return Err(missed(Miss::NotObject, k, a));
+        }
+        if !self.is_filled(a, e) {
+            return Err(missed(Miss::NoName, k, a));
+        }
+        let item = self.find_name(k, name, a + 1, e - 1);
+        of_item(Miss::NoName, k, a, item)
+    }
+
+    // The step number k, by the number m, in the value from a to e.
+    #[tactic(auto, using(crate::proofs::ItemLaws::framed_long, crate::proofs::ItemLaws::filled_some), unfolding(crate::specs::Walk::number_step))]
+    fn number_step(&self, k: usize, m: usize, a: usize, e: usize) -> Answer
+        requires le_k { (1 ≤ k) × (k ≤ self.now.shape.levels) }
+        requires a_le_e { (a ≤ e) × (e ≤ length self.now.text.now) }
+        ensures { result ≡ number_step (byte_in self.now.text.now) (bits_of self.now) k m a e }
+    {
+        if !self.is_framed(b'[', b']', a, e) {
+            return Err(missed(Miss::NotArray, k, a));
+        }
+        if !self.is_filled(a, e) {
+            return Err(missed(Miss::NoNumber, k, a));
+        }
+        let item = self.item_no(k, m, a + 1, e - 1);
+        of_item(Miss::NoNumber, k, a, item)
+    }
+
+    // All steps of a path that was checked, so that none is refused, from the value of `$` on.
+    #[tactic(auto, using(paths::proofs::PathLaws::name_told, paths::proofs::PathLaws::number_told, crate::proofs::Going::going_start, crate::proofs::Going::level_name, crate::proofs::Going::going_name, crate::proofs::Going::level_number, crate::proofs::Going::going_number))]
+    fn walk_path(&self, path: &[u8], whole: Range<usize>) -> Answer
+        requires from_le_to { (whole.start ≤ whole.end) × (whole.end ≤ length self.now.text.now) }
+        requires levels_value { path_check path.now self.now.shape.levels ≡ Ok tt }
+        ensures { (ss : List Selector) → read_path path.now ≡ good ss → result ≡ walk_from (byte_in self.now.text.now) (bits_of self.now) 1 ss whole.start whole.end }
+    {
+        let mut part = whole;
+        let mut at: usize = 1;
+        let mut k: usize = 1;
+        loop {
+            let Some(step) = paths::read_step(path, at).unwrap_or(None) else {
+                return Ok(part);
             };
-            let item = number_step(text, words, s, k, m, a, e);
-            let Answer::Found { start, end } = item else {
-                return item;
-            };
-            a = start;
-            e = end;
-            at = behind;
+            match step {
+                PathStep::Name { start, end, next } => {
+                    let member = self.name_step(k, &path[start..end], part.start, part.end)?;
+                    part = member;
+                    at = next;
+                }
+                PathStep::Number { value, next } => {
+                    let element = self.number_step(k, value, part.start, part.end)?;
+                    part = element;
+                    at = next;
+                }
+            }
             k += 1;
-            continue;
-        };
-        let member = name_step(text, words, s, k, path, b, f, a, e);
-        let Answer::Found { start, end } = member else {
-            return member;
-        };
-        a = start;
-        e = end;
-        at = after;
-        k += 1;
+        }
     }
-}
 
-// The whole walk.
-pub fn walk_record(text: &[u8], words: &[u64], s: Shape, path: &[u8]) -> Answer
-    requires shaped { Shaped text.now words.now s }
-    requires levels_value { path_check path.now s.levels ≡ Fine }
-    ensures { (ss : List Selector) → read_path path.now ≡ good ss → result ≡ walk text.now (lent words.now s.levels s.width) ss }
-{
-    let whole = items::value_at(text, 0, 0, text.len());
-    let Item::Found { start, end } = whole else {
-        return Answer::Refused(Refusal::Broken {
-            why: Cause::EmptyValue,
-            step: 0,
-            place: 0,
-        });
-    };
-    walk_path(text, words, s, path, start, end)
+    // The whole walk.
+    #[tactic(auto, using(crate::proofs::Inside::value_in), unfolding(crate::specs::Walk::walk))]
+    pub fn walk_record(&self, path: &[u8]) -> Answer
+        requires levels_value { path_check path.now self.now.shape.levels ≡ Ok tt }
+        ensures { (ss : List Selector) → read_path path.now ≡ good ss → result ≡ walk self.now.text.now (bits_of self.now) ss }
+    {
+        let whole = items::value_at(self.text, 0, 0, self.text.len()).map_err(|broken| broken_in(
+            0, broken,
+        ))?;
+        self.walk_path(path, whole)
+    }
 }

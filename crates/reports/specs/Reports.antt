@@ -12,7 +12,7 @@ use Rattle.query.specs.Items.{is_blank, value_at, quoted, keyed, item_at, first_
 use Rattle.paths.specs.Path.{is_digit, is_head, is_tail, decimal, step_at, read_from, read_path, large}
 use Rattle.query.specs.Walk.{framed, filled, name_step, number_step, walk_from, walk}
 use Rattle.query.specs.Answers.{number_of, place_of, step_of, end_of, answer_of}
-use Rattle.query.specs.declared.types.Answer.{Answer}
+use Rattle.query.specs.Answer.{Answer}
 use Rattle.texts.specs.Texts.{bytes}
 
 -- word w of a bitmap has this value

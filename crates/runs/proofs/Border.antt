@@ -1,5 +1,6 @@
 -- The truth at a border: behind a settled chunk without a fault, what it keeps gives the state and the depth that the rules have there. And the
 -- fault that settle finds in a chunk, from the truth at its border, is the record's first.
+use Rattle.std.specs.Prelude.{Some, None, Result, Ok, Err}
 use mathlib.Core.Path.{◌≡◌, refl, sym, ap, ap₂, ◌∙◌, subst}
 use mathlib.Core.Bool.{Bool, true, false, not, ◌&&◌, ◌||◌}
 use mathlib.Core.List.{List}
@@ -23,9 +24,6 @@ use Rattle.index.specs.declared.Fault.TheVariants.{InString, InBracket}
 use Rattle.index.specs.Types.{Kept}
 use Rattle.index.specs.Types.{Chunk}
 use Rattle.index.specs.Types.{Span}
-use Rattle.index.specs.Types.{Sought}
-use Rattle.index.specs.Types.{On, At}
-use Rattle.index.specs.Types.{Nothing, Here}
 use Rattle.blocks.specs.Swinging.{dip, peak, swing}
 use Rattle.index.specs.Depth.{kept_of, below_zero, above64, clamp_depth}
 use Rattle.chunks.specs.Sweeping.{swing_by}
@@ -81,16 +79,16 @@ seek_ext o c p q zero d i h = refl
 seek_ext o c p q (suc m) d i h =
     let here = h i (omega arith) (omega arith) in
     let rest : (e : ℕ) → seek o c e (suc i) m ≡ seek p q e (suc i) m = λ e. seek_ext o c p q m e (suc i) (λ j a b. h j (omega arith) (omega arith)) in
-    ap₂ (λ (x y : Sought). pick (o i || c i) (pick (eqb d (limit_of (o i))) (At (fault_of_bracket (o i) i)) x) y) (rest (depth_past (o i) d)) (rest d)
-    ∙ ap₂ (λ (x y : Bool). pick (x || y) (pick (eqb d (limit_of x)) (At (fault_of_bracket x i)) (seek p q (depth_past x d) (suc i) m)) (seek p q d (suc i) m)) here.0 here.1
+    ap₂ (λ (x y : Result ℕ Fault). pick (o i || c i) (pick (eqb d (limit_of (o i))) (Err (fault_of_bracket (o i) i)) x) y) (rest (depth_past (o i) d)) (rest d)
+    ∙ ap₂ (λ (x y : Bool). pick (x || y) (pick (eqb d (limit_of x)) (Err (fault_of_bracket x i)) (seek p q (depth_past x d) (suc i) m)) (seek p q d (suc i) m)) here.0 here.1
 
-on_at : {A : Type 0} {d : ℕ} {f : Fault} (s : Sought) → s ≡ On d → s ≡ At f → A
+on_at : {A : Type 0} {d : ℕ} {f : Fault} (s : Result ℕ Fault) → s ≡ Ok d → s ≡ Err f → A
 on_at s p q = impossible (cc)
 
 -- what the walk of the chunk says of the record: m places from a on, of which those behind the end have no brackets
 pub data Meets (text : List ℕ) (d a m : ℕ) : Type 0 where
-  clear : (e : ℕ) → seek (opener text) (closer text) d a m ≡ On e → fault_from text a (length text - a) ≡ fault_from text (min (a + m) (length text)) (length text - min (a + m) (length text)) → Meets text d a m
-  found : (f : Fault) → seek (opener text) (closer text) d a m ≡ At f → fault_from text a (length text - a) ≡ verdict_of f → Meets text d a m
+  clear : (e : ℕ) → seek (opener text) (closer text) d a m ≡ Ok e → fault_from text a (length text - a) ≡ fault_from text (min (a + m) (length text)) (length text - min (a + m) (length text)) → Meets text d a m
+  found : (f : Fault) → seek (opener text) (closer text) d a m ≡ Err f → fault_from text a (length text - a) ≡ verdict_of f → Meets text d a m
 
 pub meets_of : (text : List ℕ) (d a m : ℕ) → a ≤ length text → Depth text d a → Meets text d a m
 unfolding seek
@@ -156,8 +154,8 @@ module _ {text : List ℕ} {c : Chunk} {s : Span} (t : Truth text c s) where
 
     -- the fault in the chunk: none, and it is clear, or the record's first
     pub data InChunk : Type 0 where
-      nothing : announced c ≡ false → sought_fault c text words levels s ≡ Nothing → Clear text c s → InChunk
-      here : (f : Fault) → announced c ≡ true → sought_fault c text words levels s ≡ Here f → fault_of text ≡ verdict_of f → InChunk
+      nothing : announced c ≡ false → sought_fault c text words levels s ≡ None → Clear text c s → InChunk
+      here : (f : Fault) → announced c ≡ true → sought_fault c text words levels s ≡ Some f → fault_of text ≡ verdict_of f → InChunk
 
     module _ (earlier : fault_of text ≡ fault_from text a (length text - a)) (inner : a ≤ length text) where
       reach : a + m ≡ 64 * s.to
@@ -213,8 +211,8 @@ depth_more text e = ne_eqb (count (opener text) (length text)) (count (closer te
 
 -- at the end of the last chunk
 pub data AtLast (text : List ℕ) (c : Chunk) : Type 0 where
-  well : end_fault c (length text) ≡ Nothing → at_end text (length text) ≡ sound → AtLast text c
-  ill : (f : Fault) → end_fault c (length text) ≡ Here f → at_end text (length text) ≡ verdict_of f → AtLast text c
+  well : end_fault c (length text) ≡ None → at_end text (length text) ≡ sound → AtLast text c
+  ill : (f : Fault) → end_fault c (length text) ≡ Some f → at_end text (length text) ≡ verdict_of f → AtLast text c
 
 pub at_last : {text : List ℕ} {c : Chunk} {s : Span} → Truth text c s → Clear text c s → s.from ≤ s.to → length text ≤ 64 * s.to → AtLast text c
 unfolding at_end verdict_of

@@ -1,5 +1,6 @@
 -- Every accepted step leads from a good job to a good job. Scan and level keep the state; settle stops the job exactly with the record's
 -- first fault.
+use Rattle.std.specs.Prelude.{Option, Some, None}
 use mathlib.Core.Path.{◌≡◌, refl, sym, ap, ap₂, ◌∙◌, subst}
 use mathlib.Core.Bool.{Bool, true, false}
 use mathlib.Core.Logic.{◌⊎◌, inl, inr, ◌↔◌}
@@ -17,7 +18,7 @@ use Rattle.rules.proofs.Booleans.{impossible}
 use Rattle.index.specs.declared.Answer.TheVariants.{Done}
 use Rattle.index.specs.declared.Fault.{Fault}
 use Rattle.index.specs.declared.Job.{Job}
-use Rattle.index.specs.Types.{Chunk, State, Open, Stopped, Closed, Step, Scan, Settle, Level, Span, Found, Nothing, Here}
+use Rattle.index.specs.Types.{Chunk, State, Open, Stopped, Closed, Step, Scan, Settle, Level, Span}
 use Rattle.index.specs.Checks.{chunk_at, with_chunk, with_state, first_word, is_last, span_of, settled_before, refusal}
 use Rattle.chunks.specs.Writing.{marks_till, levels_till, rewritten}
 use Rattle.chunks.specs.Sweeping.{scan_word, scan_words}
@@ -54,7 +55,7 @@ module _ (text words : List ℕ) (levels : ℕ) (long : length words ≡ size_of
   elsewhere b h w l (inl p) = cell_out levels (width_of (length text)) till s.from f words b h w l (inl p)
   elsewhere b h w l (inr p) = cell_out levels (width_of (length text)) till s.from f words b h w l (inr (le_trans (within b) p))
 
-nothing_here : {A : Type 0} {f : Fault} → Nothing ≡ Here f → A
+nothing_here : {A : Type 0} {f : Fault} → None ≡ Some f → A
 nothing_here e = impossible (cc)
 
 same_fault : {f h : Fault} → Stopped f ≡ Stopped h → f ≡ h
@@ -247,44 +248,44 @@ module _ {text : List ℕ} {levels : ℕ} {j : Job} {words : List ℕ} (g : Good
       seen = in_chunk truth after levels order _ at_border.earlier inner
 
       -- where nothing was found in the chunk
-      go_on : sought_fault (settle_chunk j text after k) text after levels s ≡ Nothing → Clear text (settle_chunk j text after k) s → Dec (suc k ≡ j.count)
+      go_on : sought_fault (settle_chunk j text after k) text after levels s ≡ None → Clear text (settle_chunk j text after k) s → Dec (suc k ≡ j.count)
           → Good text levels (found_job (found_by j text after k) (with_chunk j k (settle_chunk j text after k))) after
       go_on p clear (no n) =
           let last : is_last j k ≡ false = not_last g.shape k (omega (arith, n, l)) in
-          let found : found_by j text after k ≡ Nothing = found_is ∙ fault_sought (settle_chunk j text after k) text after levels s (is_last j k) Nothing p ∙ ap (λ (b : Bool). pick b (end_fault (settle_chunk j text after k) (length text)) Nothing) last in
-          subst (λ (x : Found). Good text levels (found_job x (with_chunk j k (settle_chunk j text after k))) after) (sym found)
+          let found : found_by j text after k ≡ None = found_is ∙ fault_sought (settle_chunk j text after k) text after levels s (is_last j k) None p ∙ ap (λ (b : Bool). pick b (end_fault (settle_chunk j text after k) (length text)) None) last in
+          subst (λ (x : Option Fault). Good text levels (found_job x (with_chunk j k (settle_chunk j text after k))) after) (sym found)
           (settled_to j.state (λ o. clear) (λ o q. absurd (n q)) (λ f q. never acc.opened q) (not_closed acc.opened))
       go_on p clear (yes q) =
           let last : is_last j k ≡ true = is_last_true g.shape k q in
           let past : length text ≤ 64 * s.to = width_past (length text) s.to (last_to g.shape k q) in
-          let found : found_by j text after k ≡ end_fault (settle_chunk j text after k) (length text) = found_is ∙ fault_sought (settle_chunk j text after k) text after levels s (is_last j k) Nothing p ∙ ap (λ (b : Bool). pick b (end_fault (settle_chunk j text after k) (length text)) Nothing) last in
+          let found : found_by j text after k ≡ end_fault (settle_chunk j text after k) (length text) = found_is ∙ fault_sought (settle_chunk j text after k) text after levels s (is_last j k) None p ∙ ap (λ (b : Bool). pick b (end_fault (settle_chunk j text after k) (length text)) None) last in
           let ends : fault_of text ≡ at_end text (length text) = clear.none_yet ∙ end_from text (64 * s.to) past in
           at_the_end found ends (at_last truth clear order past)
         where
           at_the_end : found_by j text after k ≡ end_fault (settle_chunk j text after k) (length text) → fault_of text ≡ at_end text (length text) → AtLast text (settle_chunk j text after k)
               → Good text levels (found_job (found_by j text after k) (with_chunk j k (settle_chunk j text after k))) after
           at_the_end found ends (well x y) =
-              subst (λ (z : Found). Good text levels (found_job z (with_chunk j k (settle_chunk j text after k))) after) (sym (found ∙ x))
+              subst (λ (z : Option Fault). Good text levels (found_job z (with_chunk j k (settle_chunk j text after k))) after) (sym (found ∙ x))
               (settled_to j.state (λ o. clear) (λ o r. ends ∙ y) (λ f r. never acc.opened r) (not_closed acc.opened))
           at_the_end found ends (ill f x y) =
-              subst (λ (z : Found). Good text levels (found_job z (with_chunk j k (settle_chunk j text after k))) after) (sym (found ∙ x))
+              subst (λ (z : Option Fault). Good text levels (found_job z (with_chunk j k (settle_chunk j text after k))) after) (sym (found ∙ x))
               (settled_to (Stopped f) (λ o. clear) (λ o r. never o refl) (λ h r. ends ∙ y ∙ ap verdict_of (same_fault r)) (λ r. stopped_closed r))
 
       found_here : InChunk truth after levels order (settle_bits text levels j words k deep inside (g.ok k l) scanned_first unset at_border.inside_there at_border.depth_there at_border.shallow_there)
           → Good text levels (found_job (found_by j text after k) (with_chunk j k (settle_chunk j text after k))) after
       found_here (nothing silent p clear) = go_on p clear (ℕ_discrete (suc k) j.count)
       found_here (here f told p q) =
-          subst (λ (z : Found). Good text levels (found_job z (with_chunk j k (settle_chunk j text after k))) after) (sym (found_is ∙ fault_sought (settle_chunk j text after k) text after levels s (is_last j k) (Here f) p))
+          subst (λ (z : Option Fault). Good text levels (found_job z (with_chunk j k (settle_chunk j text after k))) after) (sym (found_is ∙ fault_sought (settle_chunk j text after k) text after levels s (is_last j k) (Some f) p))
           (settled_to (Stopped f) (λ o. never o refl) (λ o r. never o refl) (λ h r. q ∙ ap verdict_of (same_fault r)) (λ r. stopped_closed r))
 
     pub settle_good : Good text levels (found_job (found_by j text (settle_words j text words k) k) (with_chunk j k (settle_chunk j text (settle_words j text words k) k))) (settle_words j text words k)
     settle_good = found_here acc.untaken (seen acc.untaken)
 
     -- the kept counts announce a fault exactly when the walk over the chunk finds its place
-    pub announced_found : (announced (settle_chunk j text after k) ≡ true) ↔ ((f : Fault) × (sought_fault (settle_chunk j text after k) text after levels s ≡ Here f))
+    pub announced_found : (announced (settle_chunk j text after k) ≡ true) ↔ ((f : Fault) × (sought_fault (settle_chunk j text after k) text after levels s ≡ Some f))
     announced_found = go (seen acc.untaken)
       where
         go : InChunk (truth acc.untaken) after levels (order acc.untaken) (settle_bits text levels j words k deep inside (g.ok k l) scanned_first acc.untaken at_border.inside_there at_border.depth_there at_border.shallow_there)
-            → (announced (settle_chunk j text after k) ≡ true) ↔ ((f : Fault) × (sought_fault (settle_chunk j text after k) text after levels s ≡ Here f))
+            → (announced (settle_chunk j text after k) ≡ true) ↔ ((f : Fault) × (sought_fault (settle_chunk j text after k) text after levels s ≡ Some f))
         go (nothing silent p clear) = (λ told. clash _ told silent, λ f. nothing_here (sym p ∙ f.1))
         go (here f told p q) = (λ x. (f, p), λ x. told)

@@ -1,5 +1,6 @@
 -- Demand 3: an open job has a step that it accepts, on the first chunk that is not levelled, until each chunk has had three; each lowers the steps
 -- that are left; then close is accepted. So every run can be brought to a close.
+use Rattle.std.specs.Prelude.{Option}
 use mathlib.Core.Path.{◌≡◌, refl, sym, ap, ap₂, ◌∙◌, subst}
 use mathlib.Core.Bool.{Bool, true, false, not, ◌&&◌}
 use mathlib.Core.Logic.{◌⊎◌, inl, inr, ◌↔◌}
@@ -14,7 +15,7 @@ use Rattle.rules.proofs.Booleans.{impossible}
 use Rattle.index.specs.declared.Answer.TheVariants.{Done, Faulty}
 use Rattle.index.specs.declared.Fault.{Fault}
 use Rattle.index.specs.declared.Job.{Job}
-use Rattle.index.specs.Types.{Chunk, Open, Stopped, Closed, Step, Scan, Settle, Level, Found}
+use Rattle.index.specs.Types.{Chunk, Open, Stopped, Closed, Step, Scan, Settle, Level}
 use Rattle.index.specs.Checks.{chunks_of, chunk_at, with_chunk, settled_before, taken, ready, same_lengths, refusal}
 use Rattle.index.specs.Scanning.{scan_chunk, scanned}
 use Rattle.index.specs.Settling.{settle_chunk, settle_words, found_job, settled}
@@ -133,7 +134,7 @@ left_less {text} {levels} {j} s k c l less =
     total_less (λ i. lacks (chunk_at j i)) (λ i. lacks (chunk_at (with_chunk j k c) i)) j.count k l (λ i n. ap lacks (chunk_old j s.room k few c i n))
     (subst (λ (x : Chunk). lacks x < lacks (chunk_at j k)) (sym (chunk_new j s.room k few c)) less)
 
-found_left : (x : Found) (j : Job) → steps_left (found_job x j) ≡ steps_left j
+found_left : (x : Option Fault) (j : Job) → steps_left (found_job x j) ≡ steps_left j
 unfolding steps_left
 found_left x j = found_case (λ y. steps_left (found_job y j) ≡ steps_left j) refl (λ f. refl) x
 

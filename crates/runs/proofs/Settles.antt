@@ -1,4 +1,5 @@
 -- What an accepted settle answers, the record's first fault exactly when it lies in the chunk, and what it leaves, whatever it answers.
+use Rattle.std.specs.Prelude.{Option, Some, None, Err}
 use mathlib.Core.Path.{◌≡◌, refl, sym, ap, ◌∙◌}
 use mathlib.Core.Bool.{Bool, true, false, ◌||◌}
 use mathlib.Core.Logic.{◌↔◌}
@@ -18,7 +19,7 @@ use Rattle.index.specs.declared.Answer.TheVariants.{Done, Faulty}
 use Rattle.index.specs.declared.Fault.{Fault}
 use Rattle.index.specs.declared.Fault.TheVariants.{InString, InBracket}
 use Rattle.index.specs.declared.Job.{Job}
-use Rattle.index.specs.Types.{Chunk, Span, Open, Closed, Settle, At, Found, Nothing, Here}
+use Rattle.index.specs.Types.{Chunk, Span, Open, Closed, Settle}
 use Rattle.index.specs.Answers.{fault_place}
 use Rattle.index.specs.Checks.{chunk_at, with_chunk, is_last, span_of, refusal}
 use Rattle.index.specs.Depth.{clamp_depth}
@@ -55,14 +56,14 @@ settle_done {text} {levels} {h} s r k e =
 pub announced_exactly : {text : List ℕ} {levels : ℕ} {h : Held} → Reached text levels h → (k : ℕ) → refusal Settle h.job (length text) (length h.words) k ≡ Done
     → let after = settle_words h.job text h.words k in
     let c = settle_chunk h.job text after k in
-    (announced c ≡ true) ↔ ((f : Fault) × (sought_fault c text after levels (span_of h.job (length text) k) ≡ Here f))
+    (announced c ≡ true) ↔ ((f : Fault) × (sought_fault c text after levels (span_of h.job (length text) k) ≡ Some f))
 announced_exactly {text} {levels} {h} r k e =
     let o = (accepted Settle h.job (length text) (length h.words) k e).opened in
     announced_found (good r (λ c. impossible (cc))) k e
 
 -- ---- what settle finds lies in the chunk
 
-no_fault : {A : Type 0} {f : Fault} → Nothing ≡ Here f → A
+no_fault : {A : Type 0} {f : Fault} → None ≡ Some f → A
 no_fault e = impossible (cc)
 
 bracket_place : (b : Bool) (i : ℕ) → fault_place (fault_of_bracket b i) ≡ i
@@ -70,13 +71,13 @@ bracket_place true i = refl
 bracket_place false i = refl
 
 -- a walk meets a fault at one of its places
-seek_place : (o c : ℕ → Bool) (m d i : ℕ) (f : Fault) → of_sought (seek o c d i m) ≡ Here f → (i ≤ fault_place f) × (fault_place f < i + m)
+seek_place : (o c : ℕ → Bool) (m d i : ℕ) (f : Fault) → of_sought (seek o c d i m) ≡ Some f → (i ≤ fault_place f) × (fault_place f < i + m)
 unfolding seek
 seek_place o c zero d i f e = no_fault e
 seek_place o c (suc m) d i f e = go (o i || c i) (eqb d (limit_of (o i))) e (λ x q. seek_place o c m x (suc i) f q)
   where
-    go : (a b : Bool) → of_sought (pick a (pick b (At (fault_of_bracket (o i) i)) (seek o c (depth_past (o i) d) (suc i) m)) (seek o c d (suc i) m)) ≡ Here f
-        → ((x : ℕ) → of_sought (seek o c x (suc i) m) ≡ Here f → (suc i ≤ fault_place f) × (fault_place f < suc i + m)) → (i ≤ fault_place f) × (fault_place f < i + suc m)
+    go : (a b : Bool) → of_sought (pick a (pick b (Err (fault_of_bracket (o i) i)) (seek o c (depth_past (o i) d) (suc i) m)) (seek o c d (suc i) m)) ≡ Some f
+        → ((x : ℕ) → of_sought (seek o c x (suc i) m) ≡ Some f → (suc i ≤ fault_place f) × (fault_place f < suc i + m)) → (i ≤ fault_place f) × (fault_place f < i + suc m)
     go true true q rest =
         let same : fault_of_bracket (o i) i ≡ f = cc in
         let here : i ≡ fault_place f = sym (bracket_place (o i) i) ∙ ap fault_place same in
@@ -84,26 +85,26 @@ seek_place o c (suc m) d i f e = go (o i || c i) (eqb d (limit_of (o i))) e (λ 
     go true false q rest = let r = rest (depth_past (o i) d) q in (omega (arith, r.0), omega (arith, r.1))
     go false b q rest = let r = rest d q in (omega (arith, r.0), omega (arith, r.1))
 
-sought_place : (c : Chunk) (text words : List ℕ) (levels : ℕ) (s : Span) (f : Fault) → sought_fault c text words levels s ≡ Here f → (64 * s.from ≤ fault_place f) × (fault_place f < 64 * s.to)
+sought_place : (c : Chunk) (text words : List ℕ) (levels : ℕ) (s : Span) (f : Fault) → sought_fault c text words levels s ≡ Some f → (64 * s.from ≤ fault_place f) × (fault_place f < 64 * s.to)
 unfolding sought_fault seek_in
 sought_place c text words levels s f e = go (announced c) e
   where
-    go : (b : Bool) → pick b (of_sought (seek_in text words levels s.from s.to c.start)) Nothing ≡ Here f → (64 * s.from ≤ fault_place f) × (fault_place f < 64 * s.to)
+    go : (b : Bool) → pick b (of_sought (seek_in text words levels s.from s.to c.start)) None ≡ Some f → (64 * s.from ≤ fault_place f) × (fault_place f < 64 * s.to)
     go true q = let r = seek_place _ _ (64 * (s.to - s.from)) c.start (64 * s.from) f q in (r.0, omega (arith, r.0, r.1))
     go false q = no_fault q
 
-end_place : (c : Chunk) (n : ℕ) (f : Fault) → end_fault c n ≡ Here f → fault_place f ≡ n
+end_place : (c : Chunk) (n : ℕ) (f : Fault) → end_fault c n ≡ Some f → fault_place f ≡ n
 unfolding end_fault
 end_place c n f e = go (xor c.inside c.kept.odd) (ltb 0 (clamp_depth (pos c.start +ℤ c.kept.net))) e
   where
-    go : (a b : Bool) → pick a (Here (InString n)) (pick b (Here (InBracket n)) Nothing) ≡ Here f → fault_place f ≡ n
+    go : (a b : Bool) → pick a (Some (InString n)) (pick b (Some (InBracket n)) None) ≡ Some f → fault_place f ≡ n
     go true b q = let same : InString n ≡ f = cc in ap fault_place (sym same)
     go false true q = let same : InBracket n ≡ f = cc in ap fault_place (sym same)
     go false false q = no_fault q
 
-found_place : (j : Job) (text words : List ℕ) (k : ℕ) (f : Fault) → found_by j text words k ≡ Here f → LiesIn j (length text) k (fault_place f)
+found_place : (j : Job) (text words : List ℕ) (k : ℕ) (f : Fault) → found_by j text words k ≡ Some f → LiesIn j (length text) k (fault_place f)
 unfolding found_by chunk_fault
-found_place j text words k f e = found_case (λ x. sought_fault c text words j.levels s ≡ x → or_found x (pick (is_last j k) (end_fault c (length text)) Nothing) ≡ Here f → LiesIn j (length text) k (fault_place f)) (λ p q. ends (is_last j k) refl q)
+found_place j text words k f e = found_case (λ x. sought_fault c text words j.levels s ≡ x → or_found x (pick (is_last j k) (end_fault c (length text)) None) ≡ Some f → LiesIn j (length text) k (fault_place f)) (λ p q. ends (is_last j k) refl q)
     (λ x p q. let r = sought_place c text words j.levels s f (p ∙ q) in LiesIn.among r.0 r.1) (sought_fault c text words j.levels s) refl e
   where
     c : Chunk
@@ -112,7 +113,7 @@ found_place j text words k f e = found_case (λ x. sought_fault c text words j.l
     s : Span
     s = span_of j (length text) k
 
-    ends : (b : Bool) → is_last j k ≡ b → pick b (end_fault c (length text)) Nothing ≡ Here f → LiesIn j (length text) k (fault_place f)
+    ends : (b : Bool) → is_last j k ≡ b → pick b (end_fault c (length text)) None ≡ Some f → LiesIn j (length text) k (fault_place f)
     ends true p q = LiesIn.at_the_end p (end_place c (length text) f q)
     ends false p q = no_fault q
 
@@ -134,10 +135,10 @@ fault_later text (suc r) a f e = go (closes_none text a) (opens_over text a) e (
     go false true q rest = let same : a ≡ fault_place f = cc in omega (arith, same)
     go false false q rest = omega (arith, rest q)
 
-pub found_chunk : (x : Found) (j : Job) (k : ℕ) → chunk_at (found_job x j) k ≡ chunk_at j k
+pub found_chunk : (x : Option Fault) (j : Job) (k : ℕ) → chunk_at (found_job x j) k ≡ chunk_at j k
 found_chunk x j k = found_case (λ y. chunk_at (found_job y j) k ≡ chunk_at j k) refl (λ f. refl) x
 
-found_count : (x : Found) (j : Job) → (found_job x j).count ≡ j.count
+found_count : (x : Option Fault) (j : Job) → (found_job x j).count ≡ j.count
 found_count x j = found_case (λ y. (found_job y j).count ≡ j.count) refl (λ f. refl) x
 
 module _ {text : List ℕ} {levels : ℕ} {h : Held} (r : Reached text levels h) (k : ℕ) (e : refusal Settle h.job (length text) (length h.words) k ≡ Done) where
@@ -166,7 +167,7 @@ module _ {text : List ℕ} {levels : ℕ} {h : Held} (r : Reached text levels h)
   few = omega (arith, l, s.many)
 
   -- where nothing is found, the job is good as before, and the chunk settled
-  gone_on : found_by j text after k ≡ Nothing → Good text levels (with_chunk j k (settle_chunk j text after k)) after
+  gone_on : found_by j text after k ≡ None → Good text levels (with_chunk j k (settle_chunk j text after k)) after
   unfolding Fine act settled settled_words
   gone_on q = rw (e, q) at (settle_fine text levels k h fine)
 
@@ -178,7 +179,7 @@ module _ {text : List ℕ} {levels : ℕ} {h : Held} (r : Reached text levels h)
   unfolding settle_chunk
   same_span = span_same j s.room k few (settle_chunk j text after k) refl (length text) k
 
-  none_here : found_by j text after k ≡ Nothing → (f : Fault) → fault_of text ≡ verdict_of f → LiesIn j (length text) k (fault_place f) → ⊥
+  none_here : found_by j text after k ≡ None → (f : Fault) → fault_of text ≡ verdict_of f → LiesIn j (length text) k (fault_place f) → ⊥
   none_here q f named lies = go (ℕ_discrete (suc k) j.count) lies
     where
       go : Dec (suc k ≡ j.count) → LiesIn j (length text) k (fault_place f) → ⊥
@@ -202,7 +203,7 @@ module _ {text : List ℕ} {levels : ℕ} {h : Held} (r : Reached text levels h)
       there : (settled j text h.words k).answer ≡ Faulty f → (fault_of text ≡ verdict_of f) × LiesIn j (length text) k (fault_place f)
       there a = (settle_named r k f a, found_place j text after k f ((settle_fault j text h.words k f).0 a).1)
 
-      back : fault_of text ≡ verdict_of f → (x : Fault) → found_by j text after k ≡ Here x → (settled j text h.words k).answer ≡ Faulty f
+      back : fault_of text ≡ verdict_of f → (x : Fault) → found_by j text after k ≡ Some x → (settled j text h.words k).answer ≡ Faulty f
       back named x q =
           let a = (settle_fault j text h.words k x).1 (e, q) in
           a ∙ ap Faulty (same_fault x f (sym (settle_named r k x a) ∙ named))

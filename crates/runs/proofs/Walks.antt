@@ -1,5 +1,6 @@
 -- A walk over brackets from a depth: it meets no fault exactly when the depth stays within 0 and 64, that is when what a chunk keeps says so;
 -- and a walk from the true depth meets the first fault of the record. By induction on the places.
+use Rattle.std.specs.Prelude.{Result, Ok, Err}
 use mathlib.Core.Path.{◌≡◌, refl, sym, ap, ap₂, ◌∙◌, subst}
 use mathlib.Core.Bool.{Bool, true, false, ◌&&◌, ◌||◌}
 use mathlib.Core.List.{List}
@@ -15,8 +16,6 @@ use Rattle.rules.specs.Bits.{opener, closer, at_depth, mask_bit}
 use Rattle.rules.specs.Faults.{closes_none, opens_over, fault_from}
 use Rattle.index.specs.declared.Fault.{Fault}
 use Rattle.index.specs.declared.Fault.TheVariants.{Closer, Opener}
-use Rattle.index.specs.Types.{Sought}
-use Rattle.index.specs.Types.{On, At}
 use Rattle.runs.specs.Runs.{verdict_of}
 use Rattle.blocks.specs.Swinging.{dip, peak, Apart}
 use Rattle.index.specs.Settling.{limit_of, fault_of_bracket, depth_past, seek}
@@ -42,12 +41,12 @@ place o c apart i = go (o i) refl (c i) refl
 
 -- of m places from a on, at depth d: the walk meets no fault and the depth stays within 0 and 64, or it meets one and it does not
 pub data Walked (o c : ℕ → Bool) (a d m : ℕ) : Type 0 where
-  stays : (e : ℕ) → seek o c d a m ≡ On e → dip (λ j. o (a + j)) (λ j. c (a + j)) m ≤ d → d + peak (λ j. o (a + j)) (λ j. c (a + j)) m ≤ 64
+  stays : (e : ℕ) → seek o c d a m ≡ Ok e → dip (λ j. o (a + j)) (λ j. c (a + j)) m ≤ d → d + peak (λ j. o (a + j)) (λ j. c (a + j)) m ≤ 64
       → d + count (λ j. o (a + j)) m ≡ e + count (λ j. c (a + j)) m → Walked o c a d m
-  meets : (f : Fault) → seek o c d a m ≡ At f → (dip (λ j. o (a + j)) (λ j. c (a + j)) m ≤ d → d + peak (λ j. o (a + j)) (λ j. c (a + j)) m ≤ 64 → ⊥) → Walked o c a d m
+  meets : (f : Fault) → seek o c d a m ≡ Err f → (dip (λ j. o (a + j)) (λ j. c (a + j)) m ≤ d → d + peak (λ j. o (a + j)) (λ j. c (a + j)) m ≤ 64 → ⊥) → Walked o c a d m
 
 module _ (o c : ℕ → Bool) (apart : Apart o c) (a d : ℕ) where
-  next_on : (m : ℕ) {e : ℕ} {s : Sought} → seek o c d a m ≡ On e → seek o c e (a + m) 1 ≡ s → seek o c d a (suc m) ≡ s
+  next_on : (m : ℕ) {e : ℕ} {s : Result ℕ Fault} → seek o c d a m ≡ Ok e → seek o c e (a + m) 1 ≡ s → seek o c d a (suc m) ≡ s
   next_on m p q = ap (seek o c d a) (sym (add-one m)) ∙ seek_on o c d a m 1 p ∙ q
 
   pub walked : (m : ℕ) → d ≤ 64 → Walked o c a d m
@@ -61,7 +60,7 @@ module _ (o c : ℕ → Bool) (apart : Apart o c) (a d : ℕ) where
       v : ℕ → Bool
       v j = c (a + j)
 
-      at_opener : (e : ℕ) → seek o c d a m ≡ On e → dip u v m ≤ d → d + peak u v m ≤ 64 → d + count u m ≡ e + count v m → o (a + m) ≡ true → c (a + m) ≡ false → Dec (e ≡ 64) → Walked o c a d (suc m)
+      at_opener : (e : ℕ) → seek o c d a m ≡ Ok e → dip u v m ≤ d → d + peak u v m ≤ 64 → d + count u m ≡ e + count v m → o (a + m) ≡ true → c (a + m) ≡ false → Dec (e ≡ 64) → Walked o c a d (suc m)
       at_opener e p x y z q r (yes t) =
           meets (fault_of_bracket (o (a + m)) (a + m)) (next_on m p (seek_fault o c e (a + m) 0 (ap₂ ◌||◌ q r) (t ∙ ap limit_of (sym q))))
           (λ low high. omega (arith, ap digit q, ap digit r))
@@ -69,7 +68,7 @@ module _ (o c : ℕ → Bool) (apart : Apart o c) (a d : ℕ) where
           stays (depth_past (o (a + m)) e) (next_on m p (seek_past o c e (a + m) 0 (ap₂ ◌||◌ q r) (λ t. n (t ∙ ap limit_of q))))
           (omega (arith, ap digit q, ap digit r, dip_ge u v m)) (omega (arith, ap digit q, ap digit r, n, peak_ge u v m)) (omega (arith, ap digit q, ap digit r, ap (λ (b : Bool). depth_past b e) q))
 
-      at_closer : (e : ℕ) → seek o c d a m ≡ On e → dip u v m ≤ d → d + peak u v m ≤ 64 → d + count u m ≡ e + count v m → o (a + m) ≡ false → c (a + m) ≡ true → Dec (e ≡ 0) → Walked o c a d (suc m)
+      at_closer : (e : ℕ) → seek o c d a m ≡ Ok e → dip u v m ≤ d → d + peak u v m ≤ 64 → d + count u m ≡ e + count v m → o (a + m) ≡ false → c (a + m) ≡ true → Dec (e ≡ 0) → Walked o c a d (suc m)
       at_closer e p x y z q r (yes t) =
           meets (fault_of_bracket (o (a + m)) (a + m)) (next_on m p (seek_fault o c e (a + m) 0 (ap₂ ◌||◌ q r) (t ∙ ap limit_of (sym q))))
           (λ low high. omega (arith, ap digit q, ap digit r))
@@ -120,8 +119,8 @@ module _ (text : List ℕ) where
 
   -- what a walk of m places says of the faults from a on, where r places are left behind it
   pub data Told (d a m r : ℕ) : Type 0 where
-    goes_on : (e : ℕ) → seek (opener text) (closer text) d a m ≡ On e → Depth e (a + m) → fault_from text a (m + r) ≡ fault_from text (a + m) r → Told d a m r
-    stops : (f : Fault) → seek (opener text) (closer text) d a m ≡ At f → fault_from text a (m + r) ≡ verdict_of f → Told d a m r
+    goes_on : (e : ℕ) → seek (opener text) (closer text) d a m ≡ Ok e → Depth e (a + m) → fault_from text a (m + r) ≡ fault_from text (a + m) r → Told d a m r
+    stops : (f : Fault) → seek (opener text) (closer text) d a m ≡ Err f → fault_from text a (m + r) ≡ verdict_of f → Told d a m r
 
   shift : (m d e a r : ℕ) → seek (opener text) (closer text) d a (suc m) ≡ seek (opener text) (closer text) e (suc a) m → fault_from text a (suc (m + r)) ≡ fault_from text (suc a) (m + r)
       → Told e (suc a) m r → Told d a (suc m) r
@@ -147,7 +146,7 @@ module _ (text : List ℕ) where
 
       at_opener : o a ≡ true → c a ≡ false → Told (d + 1) (suc a) m r → Dec (d ≡ 64) → Told d a (suc m) r
       at_opener p q rest (yes e) =
-          stops (Opener a) (seek_fault o c d a m (ap₂ ◌||◌ p q) (e ∙ ap limit_of (sym p)) ∙ ap (λ (b : Bool). At (fault_of_bracket b a)) p)
+          stops (Opener a) (seek_fault o c d a m (ap₂ ◌||◌ p q) (e ∙ ap limit_of (sym p)) ∙ ap (λ (b : Bool). Err (fault_of_bracket b a)) p)
           (ap (fault_from text a) (suc-add m r) ∙ rw (no_closer a q, ap₂ ◌&&◌ p (depth_yes d a 64 h e)))
       at_opener p q rest (no n) =
           shift m d (d + 1) a r (seek_past o c d a m (ap₂ ◌||◌ p q) (λ t. n (t ∙ ap limit_of p)) ∙ ap (λ (b : Bool). seek o c (depth_past b d) (suc a) m) p)
@@ -155,7 +154,7 @@ module _ (text : List ℕ) where
 
       at_closer : o a ≡ false → c a ≡ true → ((d ≡ 0 → ⊥) → Told (d - 1) (suc a) m r) → Dec (d ≡ 0) → Told d a (suc m) r
       at_closer p q rest (yes e) =
-          stops (Closer a) (seek_fault o c d a m (ap₂ ◌||◌ p q) (e ∙ ap limit_of (sym p)) ∙ ap (λ (b : Bool). At (fault_of_bracket b a)) p)
+          stops (Closer a) (seek_fault o c d a m (ap₂ ◌||◌ p q) (e ∙ ap limit_of (sym p)) ∙ ap (λ (b : Bool). Err (fault_of_bracket b a)) p)
           (ap (fault_from text a) (suc-add m r) ∙ rw (ap₂ ◌&&◌ q (depth_yes d a 0 h e)))
       at_closer p q rest (no n) =
           shift m d (d - 1) a r (seek_past o c d a m (ap₂ ◌||◌ p q) (λ t. n (t ∙ ap limit_of p)) ∙ ap (λ (b : Bool). seek o c (depth_past b d) (suc a) m) p)

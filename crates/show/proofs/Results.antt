@@ -17,7 +17,7 @@ use Rattle.query.specs.declared.types.Miss.TheVariants.{NotObject, NotArray, NoN
 use Rattle.query.specs.declared.types.Cause.{Cause}
 use Rattle.query.specs.declared.types.Cause.TheVariants.{NoColon, BadName, EmptyValue, BadEscape}
 use Rattle.query.specs.declared.types.Refusal.TheVariants.{BadPath, Missed, Broken}
-use Rattle.query.specs.declared.types.Answer.TheVariants.{Refused}
+use Rattle.query.specs.Answer.{Refused}
 use Rattle.query.specs.Answers.{miss_number, cause_number, answer_of}
 use Rattle.runs.specs.Whole.{WholeRun, plainly}
 use Rattle.runs.proofs.Theorems.{sound_closes, faulty_closes}

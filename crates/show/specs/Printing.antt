@@ -5,7 +5,7 @@ use Rattle.rules.specs.Layout.{size_of}
 use Rattle.index.specs.declared.Answer as job
 use Rattle.index.specs.Answers.{number_of, place_of, on_done}
 use Rattle.query.specs.declared.types.Refusal.{Refusal}
-use Rattle.query.specs.declared.types.Answer.{Answer}
+use Rattle.query.specs.Answer.{Answer}
 use Rattle.paths.specs.Places.{first_at}
 use Rattle.query.specs.Walk.{on_found}
 use Rattle.query.specs.Answers as query

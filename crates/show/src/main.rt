@@ -5,15 +5,10 @@ mod printing;
 
 use reading::read_full;
 use std::io;
-use std::io::Write;
-
-fn print<W: Write>(out: &mut W, line: printing::Printed) -> io::Result<()> {
-    writeln!(out, "{} {} {}", line.number, line.start, line.end)
-}
 
 // The buffer holds more than any input whose line depends on all its bytes: 1,025 + 16,385.
 fn main(rt: HostRuntime) -> io::Result<()> {
     let mut input = [0u8; 65536];
     let n = read_full(&mut rt.stdin(), &mut input)?;
-    print(&mut rt.stdout(), printing::shown(&input[..n]))
+    println!(rt; "{}", printing::shown(&input[..n]))
 }

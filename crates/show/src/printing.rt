@@ -6,7 +6,9 @@ ghost use Rattle.show.specs.Printing as Printing;
 
 use index::Answer;
 use layout::size_of;
+use memchr::memchr;
 use query::types::Refusal;
+use std::{array, fmt};
 
 #[derive(Clone, Copy)]
 pub struct Printed {
@@ -15,11 +17,17 @@ pub struct Printed {
     pub end: usize,
 }
 
+impl fmt::Display for Printed {
+    fn fmt<W: fmt::Write>(&self, f: &mut fmt::Formatter<W>) -> fmt::Result {
+        write!(f, "{} {} {}", self.number, self.start, self.end)
+    }
+}
+
 fn placed(number: u64, place: usize) -> Printed
     ensures { result ≡ Printing.placed number place }
 {
     Printed {
-        number: number,
+        number,
         start: place,
         end: place,
     }
@@ -30,26 +38,24 @@ fn refused(why: Refusal) -> Printed
     ensures { result ≡ Printing.refusal_printed why }
 {
     let number = why.number();
-    if number < 23 {
-        return placed(number, why.place());
-    }
-    placed(number, 0)
+    let place = if number < 23 { why.place() } else { 0 };
+    placed(number, place)
 }
 
 fn query_printed(text: &[u8], words: &[u64], path: &[u8]) -> Printed
     ensures { result ≡ Printing.query_printed (answer_of text.now words.now 4 path.now) }
 {
-    let told = query::answer(text, words, 4, path);
-    match told {
-        query::types::Answer::Found { start, end } => Printed {
+    match query::answer(text, words, 4, path) {
+        Ok(part) => Printed {
             number: 0,
-            start,
-            end,
+            start: part.start,
+            end: part.end,
         },
-        query::types::Answer::Refused(why) => refused(why),
+        Err(why) => refused(why),
     }
 }
 
+#[tactic(auto, unfolding(crate::specs::Printing::printed_in))]
 fn printed_in(text: &[u8], words: &mut [u64], cuts: &[usize], path: &[u8]) -> Printed
     ensures { result ≡ Printing.printed_in text.now words.old cuts.now path.now }
 {
@@ -64,23 +70,18 @@ fn printed_in(text: &[u8], words: &mut [u64], cuts: &[usize], path: &[u8]) -> Pr
 fn cut_count(n: usize) -> usize
     ensures { result ≡ (n - 1) / 1024 }
 {
-    if n == 0 {
-        return 0;
-    }
-    (n - 1) / 1024
+    n.saturating_sub(1) / 1024
 }
 
 // As many as a record of 16,384 bytes is cut at.
 fn all_cuts() -> [usize; 15]
     ensures { result ≡ multiples 15 }
 {
-    [
-        1024, 2048, 3072, 4096, 5120, 6144, 7168, 8192, 9216, 10240, 11264, 12288, 13312, 14336,
-        15360,
-    ]
+    array::from_fn(|i| 1024 * (i + 1))
 }
 
 // As many as the index of such a record has.
+#[tactic(auto, unfolding(crate::specs::Printing::zeros))]
 fn all_words() -> [u64; 2560]
     ensures { result ≡ Printing.zeros 2560 }
 {
@@ -99,33 +100,28 @@ fn printed_of(text: &[u8], path: &[u8]) -> Printed
     printed_in(text, &mut words[..size], &cuts[..count], path)
 }
 
-// The place of the first LF, or the length of an input that has none.
-fn path_end(input: &[u8]) -> usize
-    ensures { result ≡ Printing.path_end input.now }
+// The path and the record: what lies before the first LF, and behind it. An input without an LF is all path.
+fn parts(input: &[u8]) -> (&[u8], &[u8])
+    ensures path { result.0.now ≡ Printing.path_of input.now }
+    ensures path_long { length result.0.now ≡ Printing.path_end input.now }
+    ensures record { result.1.now ≡ Printing.record_of input.now }
 {
-    let mut i = 0;
-    while i < input.len() {
-        if input[i] == 10 {
-            return i;
-        }
-        i += 1;
+    match memchr(b'\n', input) {
+        Some(at) => (&input[..at], &input[at + 1..]),
+        None => (input, &input[input.len()..]),
     }
-    i
 }
 
+#[tactic(auto, unfolding(crate::specs::Printing::shown))]
 pub fn shown(input: &[u8]) -> Printed
     ensures { result ≡ Printing.shown input.now }
 {
-    let at = path_end(input);
-    if 1024 < at {
+    let (path, text) = parts(input);
+    if 1024 < path.len() {
         return refused(Refusal::TooLarge);
     }
-    if at == input.len() {
-        return printed_of(&input[at..], &input[..at]);
-    }
-    let text = &input[at + 1..];
     if 16384 < text.len() {
         return refused(Refusal::LongRecord);
     }
-    printed_of(text, &input[..at])
+    printed_of(text, path)
 }

@@ -1,13 +1,24 @@
 // The calls of a job, and queries; and which call is whose.
-ghost use Rattle.std.specs.Prelude.{◌≤◌, ◌<◌};
+ghost use Rattle.std.specs.Prelude.{◌<◌};
 
-use crate::byline::{cut_text, line_call};
-use crate::input::{Head, read_bytes, read_cuts};
-use crate::lending::{Lengths, cut};
+use crate::input::{Head, Kind, read_bytes, read_cuts};
+use crate::lending::Lengths;
 use crate::telling::{digest_of, tell, tell_end, tell_part, tell_two};
-use index::{Had, Handed, Job};
+use index::{Handed, Job};
 use std::io;
 use std::io::{Read, Write};
+
+// A trial as it stands: how much is lent, the job that was handed back last, the one that is kept, and the digest of what the calls
+// left.
+#[derive(Drop)]
+pub struct Trial<R, W> {
+    pub input: R,
+    pub out: W,
+    pub lent: Lengths,
+    pub job: Job,
+    pub kept: Job,
+    pub digest: u64,
+}
 
 // A refused opening hands back a closed job.
 pub fn no_job() -> Job {
@@ -15,263 +26,170 @@ pub fn no_job() -> Job {
     opened.job
 }
 
-// K: the job is kept, in the place of an older one.
-pub fn keep(head: Head, job: Job, kept: Job) -> Job {
-    if head.letter == b'K' { job } else { kept }
-}
-
-fn told<W: Write>(out: &mut W, handed: Handed, words: &[u64], digest: &mut u64) -> io::Result<Job> {
-    let answer = handed.answer;
-    tell(out, answer.number(), answer.place())?;
-    *digest = digest_of(*digest, words);
-    Ok(handed.job)
-}
-
-// O: with the cuts that follow.
-fn open<R: Read, W: Write>(
-    input: &mut R,
-    out: &mut W,
-    head: Head,
-    text: &[u8],
-    words: &[u64],
-    digest: &mut u64,
-) -> io::Result<Job> {
-    let mut bytes = [0u8; 4096];
-    let got = read_bytes(input, head.length, &mut bytes)?;
-    let mut cuts = [0usize; 128];
-    let count = read_cuts(&bytes[..got], &mut cuts);
-    told(
-        out,
-        Job::open(text, words, head.levels, &cuts[..count]),
-        words,
-        digest,
-    )
-}
-
-// S, T, L: the steps. Any other letter closes.
-fn job_call<W: Write>(
-    out: &mut W,
-    job: Job,
-    head: Head,
-    text: &[u8],
-    words: &mut [u64],
-    digest: &mut u64,
-) -> io::Result<Job> {
-    let k = head.value as usize;
-    if head.letter == b'S' {
-        let handed = job.scan(text, words, k, head.flag & 1 == 1);
-        return told(out, handed, words, digest);
+impl<R: Read, W: Write> Trial<R, W> {
+    fn told(&mut self, handed: Handed, words: &[u64]) -> io::Result<()> {
+        let answer = handed.answer;
+        tell(&mut self.out, answer.number(), answer.place())?;
+        self.digest = digest_of(self.digest, words.iter().copied());
+        self.job = handed.job;
+        Ok(())
     }
-    if head.letter == b'T' {
-        let handed = job.settle(text, words, k);
-        return told(out, handed, words, digest);
-    }
-    if head.letter == b'L' {
-        let handed = job.level(text, words, k);
-        return told(out, handed, words, digest);
-    }
-    let handed = job.close(text, words);
-    told(out, handed, words, digest)
-}
 
-fn weigh(had: bool, weight: usize) -> usize
-    ensures { result ≤ weight }
-{
-    if had { weight } else { 0 }
-}
-
-// A: the chunks, and the steps that one has had.
-fn ask<W: Write>(out: &mut W, job: Job, k: usize) -> io::Result<()> {
-    let asked = job.ask(k);
-    let had = asked.had;
-    match had {
-        Had::NoChunk => tell_two(out, asked.number(), asked.chunks, 0),
-        Had::Steps {
-            scanned,
-            settled,
-            levelled,
-        } => {
-            let steps = weigh(scanned, 1) + weigh(settled, 2) + weigh(levelled, 4);
-            tell_two(out, asked.number(), asked.chunks, steps)
-        }
+    // With the cuts that follow.
+    fn open(&mut self, head: Head, text: &[u8], words: &[u64]) -> io::Result<()> {
+        let mut bytes = [0u8; 4096];
+        let got = read_bytes(&mut self.input, head.length, &mut bytes)?;
+        let mut cuts = [0usize; 128];
+        let count = read_cuts(&bytes[..got], &mut cuts);
+        let handed = Job::open(text, words, head.levels, &cuts[..count]);
+        self.told(handed, words)
     }
-}
 
-fn find<W: Write>(
-    out: &mut W,
-    text: &[u8],
-    words: &[u64],
-    levels: usize,
-    path: &[u8],
-) -> io::Result<()> {
-    let mut number = 0;
-    let mut place = 0;
-    let mut step = 0;
-    let part = query::query(
-        text,
-        words,
-        levels,
-        path,
-        &mut number,
-        &mut place,
-        &mut step,
-    );
-    tell_part(out, number, place, step, part)
-}
+    fn scan(&mut self, head: Head, text: &[u8], words: &mut [u64]) -> io::Result<()> {
+        let handed = self
+            .job
+            .scan(text, words, head.value as usize, head.flag & 1 == 1);
+        self.told(handed, words)
+    }
 
-// Q: with the path that follows.
-fn ask_path<R: Read, W: Write>(
-    input: &mut R,
-    out: &mut W,
-    head: Head,
-    text: &[u8],
-    words: &[u64],
-) -> io::Result<()> {
-    let mut bytes = [0u8; 4096];
-    let got = read_bytes(input, head.length, &mut bytes)?;
-    find(out, text, words, head.levels, &bytes[..got])
-}
+    fn settle(&mut self, head: Head, text: &[u8], words: &mut [u64]) -> io::Result<()> {
+        let handed = self.job.settle(text, words, head.value as usize);
+        self.told(handed, words)
+    }
 
-fn ask_and_open<W: Write>(
-    out: &mut W,
-    text: &[u8],
-    levels: usize,
-    words: &[u64],
-    digest: &mut u64,
-) -> io::Result<Job> {
-    find(out, text, words, levels, b"$")?;
-    told(
-        out,
-        Job::open(text, words, levels, &[64usize; 1]),
-        words,
-        digest,
-    )
-}
+    fn level(&mut self, head: Head, text: &[u8], words: &mut [u64]) -> io::Result<()> {
+        let handed = self.job.level(text, words, head.value as usize);
+        self.told(handed, words)
+    }
 
-// A record of N blanks.
-fn blanks<const N: usize, W: Write>(
-    out: &mut W,
-    levels: usize,
-    words: &[u64],
-    table: &mut [usize],
-    digest: &mut u64,
-) -> io::Result<Job>
-    requires { N < 9223372036854775808 }
-{
-    let text = [32u8; N];
-    cut_text(out, &text, table, digest)?;
-    ask_and_open(out, &text, levels, words, digest)
-}
+    fn close(&mut self, text: &[u8], words: &mut [u64]) -> io::Result<()> {
+        let handed = self.job.close(text, words);
+        self.told(handed, words)
+    }
 
-// A record above the limit.
-fn beyond<W: Write>(
-    out: &mut W,
-    levels: usize,
-    words: &[u64],
-    table: &mut [usize],
-    digest: &mut u64,
-) -> io::Result<Job> {
-    blanks::<16777217, W>(out, levels, words, table, digest)
-}
+    // The chunks, and the steps that one has had.
+    fn ask(&mut self, k: usize) -> io::Result<()> {
+        let asked = self.job.ask(k);
+        let steps = match asked.had {
+            None => 0,
+            Some(had) => {
+                usize::from(had.scanned)
+                    + 2 * usize::from(had.settled)
+                    + 4 * usize::from(had.levelled)
+            }
+        };
+        tell_two(&mut self.out, asked.number(), asked.chunks, steps)
+    }
 
-// B: that, and as often more as the flag says. A function that calls itself keeps the 16 MiB out of the other functions' frames,
-// so that where no B comes no large stack is needed.
-fn beyond_again<W: Write>(
-    out: &mut W,
-    more: usize,
-    levels: usize,
-    words: &[u64],
-    table: &mut [usize],
-    digest: &mut u64,
-) -> io::Result<Job> {
-    if more == 0 {
-        return beyond(out, levels, words, table, digest);
-    }
-    beyond_again(out, more - 1, levels, words, table, digest)?;
-    beyond(out, levels, words, table, digest)
-}
-
-fn lend<R: Read, W: Write>(
-    input: &mut R,
-    out: &mut W,
-    job: Job,
-    head: Head,
-    text: &[u8],
-    words: &mut [u64],
-    table: &mut [usize],
-    digest: &mut u64,
-) -> io::Result<Job> {
-    if head.letter == b'O' {
-        return open(input, out, head, text, words, digest);
-    }
-    if head.letter == b'A' {
-        ask(out, job, head.value as usize)?;
-        return Ok(job);
-    }
-    if head.letter == b'Q' {
-        ask_path(input, out, head, text, words)?;
-        return Ok(job);
-    }
-    if head.letter == b'B' {
-        let more = head.flag as usize;
-        return beyond_again(out, more, head.levels, words, table, digest);
-    }
-    if is_line_call(head.letter) {
-        line_call(out, head, text, words, table, digest)?;
-        return Ok(job);
-    }
-    job_call(out, job, head, text, words, digest)
-}
-
-fn is_line_call(letter: u8) -> bool {
-    match letter {
-        b'N' | b'I' | b'F' => true,
-        _ => false,
-    }
-}
-
-fn is_call(letter: u8) -> bool {
-    match letter {
-        b'O' | b'S' | b'T' | b'L' | b'C' | b'A' | b'Q' | b'B' => true,
-        _ => is_line_call(letter),
-    }
-}
-
-// E ends a case. H hands the kept job in.
-pub fn call<R: Read, W: Write>(
-    input: &mut R,
-    out: &mut W,
-    job: Job,
-    kept: Job,
-    head: Head,
-    lent: Lengths,
-    text: &[u8],
-    words: &mut [u64],
-    table: &mut [usize],
-    digest: &mut u64,
-) -> io::Result<Job> {
-    if head.letter == b'E' {
-        tell_end(out, *digest)?;
-        *digest = 0;
-        return Ok(job);
-    }
-    if head.letter == b'H' {
-        return Ok(kept);
-    }
-    if is_call(head.letter) {
-        let n = cut(lent.n, head.flag, 2, text.len());
-        let w = cut(lent.w, head.flag, 4, words.len());
-        let t = cut(lent.t, 0, 1, table.len());
-        return lend(
-            input,
-            out,
-            job,
-            head,
-            &text[..n],
-            &mut words[..w],
-            &mut table[..t],
-            digest,
+    fn find(&mut self, text: &[u8], words: &[u64], levels: usize, path: &[u8]) -> io::Result<()> {
+        let mut number = 0;
+        let mut place = 0;
+        let mut step = 0;
+        let part = query::query(
+            text,
+            words,
+            levels,
+            path,
+            &mut number,
+            &mut place,
+            &mut step,
         );
+        tell_part(&mut self.out, number, place, step, part)
     }
-    Ok(job)
+
+    // With the path that follows.
+    fn ask_path(&mut self, head: Head, text: &[u8], words: &[u64]) -> io::Result<()> {
+        let mut bytes = [0u8; 4096];
+        let got = read_bytes(&mut self.input, head.length, &mut bytes)?;
+        self.find(text, words, head.levels, &bytes[..got])
+    }
+
+    // A record of N blanks: its table, a query and an opening.
+    fn blanks<const N: usize>(
+        &mut self,
+        levels: usize,
+        words: &[u64],
+        table: &mut [usize],
+    ) -> io::Result<()>
+        requires { N < 9223372036854775808 }
+    {
+        let text = [b' '; N];
+        self.cut(&text, table)?;
+        self.find(&text, words, levels, b"$")?;
+        let handed = Job::open(&text, words, levels, &[64usize; 1]);
+        self.told(handed, words)
+    }
+
+    // A record above the limit. Its 16 MiB stay out of the other functions' frames, so that where no such call comes no large stack is
+    // needed.
+    #[inline(never)]
+    fn beyond(&mut self, levels: usize, words: &[u64], table: &mut [usize]) -> io::Result<()> {
+        self.blanks::<16777217>(levels, words, table)
+    }
+
+    // That, and as often more as the flag says.
+    fn beyond_again(&mut self, head: Head, words: &[u64], table: &mut [usize]) -> io::Result<()> {
+        for _ in 0..=head.flag {
+            self.beyond(head.levels, words, table)?;
+        }
+        Ok(())
+    }
+
+    // The digest so far is told, and begun anew.
+    fn end(&mut self) -> io::Result<()> {
+        tell_end(&mut self.out, self.digest)?;
+        self.digest = 0;
+        Ok(())
+    }
+
+    fn call_lent(
+        &mut self,
+        head: Head,
+        text: &[u8],
+        words: &mut [u64],
+        table: &mut [usize],
+    ) -> io::Result<()> {
+        match head.kind {
+            Kind::Keep => self.kept = self.job,
+            Kind::Hand => self.job = self.kept,
+            Kind::End => self.end()?,
+            Kind::Open => self.open(head, text, words)?,
+            Kind::Scan => self.scan(head, text, words)?,
+            Kind::Settle => self.settle(head, text, words)?,
+            Kind::Level => self.level(head, text, words)?,
+            Kind::Close => self.close(text, words)?,
+            Kind::Ask => self.ask(head.value as usize)?,
+            Kind::Query => self.ask_path(head, text, words)?,
+            Kind::Beyond => self.beyond_again(head, words, table)?,
+            Kind::Cut => self.cut(text, table)?,
+            Kind::Line => self.index_one(head, text, words, table)?,
+            Kind::Next => self.next_one(text, head.value as usize)?,
+            Kind::Record | Kind::Words | Kind::Table | Kind::Damage | Kind::Other => {}
+        }
+        Ok(())
+    }
+
+    // Reads what is lent, and lends as much to the call.
+    pub fn call(
+        &mut self,
+        head: Head,
+        text: &mut [u8],
+        words: &mut [u64],
+        table: &mut [usize],
+    ) -> io::Result<()> {
+        self.lent
+            .prepare(&mut self.input, head, text, words, table)?;
+        let most = Lengths {
+            bytes: text.len(),
+            words: words.len(),
+            numbers: table.len(),
+        };
+        let lent = self.lent.cut(head.flag, most);
+        self.call_lent(
+            head,
+            &text[..lent.bytes],
+            &mut words[..lent.words],
+            &mut table[..lent.numbers],
+        )
+    }
 }

@@ -1,40 +1,32 @@
-// What is lent to the calls: a record, words with any contents, and a table.
+// What is lent to the calls: a record, words with any contents, and a table. (The three slices are parameters of their own: the
+// borrow checker does not cover a part of a slice that is lent through a struct behind a `&mut`.)
 ghost use Rattle.std.specs.Prelude.{◌≤◌};
 
-use crate::input::{Head, read_bytes, read_cuts};
+use crate::input::{Head, Kind, read_bytes, read_cuts};
 use std::io;
 use std::io::Read;
 
 // So many bytes, words and numbers of a table are lent.
-#[derive(Clone, Copy)]
+#[derive(Clone, Copy, Default)]
 pub struct Lengths {
-    pub n: usize,
-    pub w: usize,
-    pub t: usize,
-}
-
-pub fn nothing() -> Lengths {
-    Lengths { n: 0, w: 0, t: 0 }
+    pub bytes: usize,
+    pub words: usize,
+    pub numbers: usize,
 }
 
 // Fills so many words, or all, from a seed.
 fn fill(count: usize, seed: u64, words: &mut [u64]) -> usize {
     let mut x = seed;
-    let mut i = 0;
-    while i < words.len() {
-        if i == count {
-            return i;
-        }
-        x = std::num::wrapping_add_u64(x, 0x9E3779B97F4A7C15);
-        words[i] = x ^ (x >> 31);
-        i += 1;
+    for word in words.iter_mut().take(count) {
+        x = x.wrapping_add(0x9E3779B97F4A7C15);
+        *word = x ^ (x >> 31);
     }
-    i
+    words.len().min(count)
 }
 
 fn damage(at: usize, by: u64, words: &mut [u64]) {
-    if at < words.len() {
-        words[at] = words[at] ^ by;
+    if let Some(word) = words.get_mut(at) {
+        *word ^= by;
     }
 }
 
@@ -44,54 +36,39 @@ fn read_table<R: Read>(input: &mut R, length: usize, table: &mut [usize]) -> io:
     Ok(read_cuts(&bytes[..got], table))
 }
 
-// R: a record. W: words. G: a table. D: a word damaged. Any other call: as it was.
-pub fn prepare<R: Read>(
-    input: &mut R,
-    lent: Lengths,
-    head: Head,
-    text: &mut [u8],
-    words: &mut [u64],
-    table: &mut [usize],
-) -> io::Result<Lengths> {
-    if head.letter == b'R' {
-        let n = read_bytes(input, head.length, text)?;
-        return Ok(Lengths {
-            n: n,
-            w: lent.w,
-            t: lent.t,
-        });
-    }
-    if head.letter == b'W' {
-        let w = fill(head.length, head.value, words);
-        return Ok(Lengths {
-            n: lent.n,
-            w: w,
-            t: lent.t,
-        });
-    }
-    if head.letter == b'G' {
-        let t = read_table(input, head.length, table)?;
-        return Ok(Lengths {
-            n: lent.n,
-            w: lent.w,
-            t: t,
-        });
-    }
-    if head.letter == b'D' {
-        damage(head.length, head.value, words);
-    }
-    Ok(lent)
+// A length, or one less.
+fn shorter(length: usize, by_one: bool) -> usize {
+    length.saturating_sub(usize::from(by_one))
 }
 
-// A length, one less where the bit of the flag is set, and never more than there is.
-pub fn cut(length: usize, flag: u8, bit: u8, most: usize) -> usize
-    ensures { result ≤ most }
-{
-    if most < length {
-        return most;
+impl Lengths {
+    // A record, words, a table, or a word damaged. Any other call: as it was.
+    pub fn prepare<R: Read>(
+        &mut self,
+        input: &mut R,
+        head: Head,
+        text: &mut [u8],
+        words: &mut [u64],
+        table: &mut [usize],
+    ) -> io::Result<()> {
+        match head.kind {
+            Kind::Record => self.bytes = read_bytes(input, head.length, text)?,
+            Kind::Words => self.words = fill(head.length, head.value, words),
+            Kind::Table => self.numbers = read_table(input, head.length, table)?,
+            Kind::Damage => damage(head.length, head.value, words),
+            _ => {}
+        }
+        Ok(())
     }
-    if length == 0 {
-        return 0;
+
+    // How much of each a call with this flag gets, where there is so much.
+    pub fn cut(self, flag: u8, most: Lengths) -> Lengths
+        ensures { (result.bytes ≤ most.bytes) × (result.words ≤ most.words) × (result.numbers ≤ most.numbers) }
+    {
+        Lengths {
+            bytes: shorter(self.bytes, flag & 2 != 0).min(most.bytes),
+            words: shorter(self.words, flag & 4 != 0).min(most.words),
+            numbers: self.numbers.min(most.numbers),
+        }
     }
-    if flag & bit == 0 { length } else { length - 1 }
 }

@@ -11,42 +11,32 @@ mod input;
 mod lending;
 mod telling;
 
+use calls::{Trial, no_job};
+use lending::Lengths;
 use std::io;
 use std::io::{Read, Write};
 
-// Nothing says that the input ends, so the calls are counted down, from a number that no input uses up.
-fn run<R: Read, W: Write>(
-    input: &mut R,
-    out: &mut W,
+fn run<R: Read + Drop, W: Write + Drop>(
+    input: R,
+    out: W,
     text: &mut [u8],
     words: &mut [u64],
     table: &mut [usize],
 ) -> io::Result<()> {
-    let mut job = calls::no_job();
-    let mut kept = job;
-    let mut lent = lending::nothing();
-    let mut digest = 0;
-    let mut turns = u64::MAX;
-    while turns > 0 {
-        let head = input::read_head(input)?;
-        if head.letter == 0 {
+    let mut trial = Trial {
+        input,
+        out,
+        lent: Lengths::default(),
+        job: no_job(),
+        kept: no_job(),
+        digest: 0,
+    };
+    // Nothing says that the input ends, so the calls are counted, up to a number that no input uses up.
+    for _ in 0..u64::MAX {
+        let Some(head) = input::read_head(&mut trial.input)? else {
             return Ok(());
-        }
-        kept = calls::keep(head, job, kept);
-        lent = lending::prepare(input, lent, head, text, words, table)?;
-        job = calls::call(
-            input,
-            out,
-            job,
-            kept,
-            head,
-            lent,
-            text,
-            words,
-            table,
-            &mut digest,
-        )?;
-        turns -= 1;
+        };
+        trial.call(head, text, words, table)?;
     }
     Ok(())
 }
@@ -55,11 +45,5 @@ fn main(rt: HostRuntime) -> io::Result<()> {
     let mut text = [0u8; 65536];
     let mut words = [0u64; 8192];
     let mut table = [0usize; 128];
-    run(
-        &mut rt.stdin(),
-        &mut rt.stdout(),
-        &mut text,
-        &mut words,
-        &mut table,
-    )
+    run(rt.stdin(), rt.stdout(), &mut text, &mut words, &mut table)
 }

@@ -8,25 +8,24 @@ use native.Mathlib.Omega.{arith}
 use lib.Dec.{eqb, ltb, leb}
 use lib.ListN.{length}
 use borrow.Author.Tests.{ltb-true}
+use Rattle.std.specs.Prelude.{Ok}
 use Rattle.rules.specs.Word.{pick}
 use Rattle.rules.specs.Layout.{quotes, colons, commas, width_of, size_of, Promise}
 use Rattle.rules.proofs.LayoutLaws.{promised_bit}
 use Rattle.paths.specs.Places.{byte_in, first_in, first_at}
 use Rattle.paths.specs.Grammar.{Selector, name, number, Path}
 use Rattle.paths.specs.Path.{Reading, good, bad, read_path, large}
-use Rattle.names.specs.Spelling.{matched}
-use Rattle.names.specs.declared.Match.{Match}
+use Rattle.names.specs.Spelling.{matched, Match}
 use Rattle.query.specs.Items.{Bits, lent, solid, trim_start, trim_end, value_at, quoted, keyed, item_at, or_else, first_item_in, first_item, item_no}
 use Rattle.walks.specs.Ruled.{ruled}
 use Rattle.query.specs.Walk.{on_found, of_item, framed, filled, name_step, number_step, step_by, walk_from, walk}
 use Rattle.query.specs.Answers.{after_reading, answer_of}
-use Rattle.query.specs.declared.items.Item.{Item}
-use Rattle.query.specs.declared.items.Item.TheVariants as Items
+use Rattle.query.specs.Item.{Item}
+use Rattle.query.specs.Item as Items
 use Rattle.query.specs.declared.types.Cause.TheVariants.{EmptyValue}
 use Rattle.query.specs.declared.types.Miss.TheVariants.{NotObject, NotArray, NoName, NoNumber}
 use Rattle.query.specs.declared.types.Refusal.TheVariants.{EmptyRecord, LongRecord, BadLevels, BadBuffer, TooLarge, TooDeep, Missed, Broken}
-use Rattle.query.specs.declared.types.Answer.{Answer}
-use Rattle.query.specs.declared.types.Answer.TheVariants.{Found, Refused}
+use Rattle.query.specs.Answer.{Answer, Refused}
 use Rattle.paths.proofs.PlaceLaws.{first_ge, first_le, last_bounds}
 use Rattle.query.proofs.ItemLaws.{framed_long}
 use Rattle.query.proofs.Inside.{InRecord, value_in, of_in, step_in}
@@ -117,7 +116,7 @@ module _ (byte : ℕ → ℕ) (n l : ℕ) (b c : Bits) (g : Agree n l b c) where
       when (filled byte a e) (Refused (Missed NoNumber k a)) (λ _. ap (of_item (Missed NoNumber k a) k) (item_no_agree byte (b.comma k) (c.comma k) n (λ i z. g.commas k i o p z) m (a + 1) (e - 1) (omega arith) (omega arith))))
 
   on_agree : (r : Answer) (x y : ℕ → ℕ → Answer) → InRecord n r → ((s e : ℕ) → e ≤ n → x s e ≡ y s e) → on_found r x Refused ≡ on_found r y Refused
-  on_agree (Found s e) x y i f = f s e i.1
+  on_agree (Ok part) x y i f = f part.start part.end i.1
   on_agree (Refused why) x y i f = refl
 
   walk_from_agree : (k : ℕ) (ss : List Selector) (a e : ℕ) → 1 ≤ k → k + length ss ≤ suc l → e ≤ n → walk_from byte b k ss a e ≡ walk_from byte c k ss a e

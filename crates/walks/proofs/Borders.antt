@@ -8,14 +8,14 @@ use mathlib.Core.List.{List}
 use native.Mathlib.Omega.{arith}
 use native.Mathlib.Nat.{eq-or-lt_of_le}
 use native.Mathlib.Decide.{dec_lt}
+use Rattle.std.specs.Prelude.{Ok, Err, Some}
 use Rattle.rules.proofs.Booleans.{impossible}
 use Rattle.paths.specs.Places.{first_at}
 use Rattle.names.specs.Spelling.{matched}
 use Rattle.query.specs.Items.{Bits, item_at, first_item_in, first_item}
 use Rattle.walks.specs.Members.{Borders, AllOther, FirstIs, Member}
 use Rattle.query.specs.declared.types.Cause.{Cause}
-use Rattle.query.specs.declared.items.Item.{Item}
-use Rattle.query.specs.declared.items.Item.TheVariants.{Found, Other, Broken}
+use Rattle.query.specs.Item.{Item, Found, Other, Broken}
 use Rattle.paths.proofs.PlaceLaws.{first_ge, first_le, first_hit, first_miss, first_at_is, first_all}
 use Rattle.query.proofs.Walking.{items_next, items_stop, items_last}
 use Rattle.walks.proofs.Members.{item_exactly}
@@ -88,9 +88,9 @@ pub broken_stops : {why : Cause} {p : ℕ} → Broken why p ≡ Other → ⊥
 broken_stops e = impossible (cc)
 
 other_or_not : (x : Item) → (x ≡ Other) ⊎ (x ≡ Other → ⊥)
-other_or_not (Found p q) = inr (λ e. found_stops e)
+other_or_not (Ok (Some part)) = inr (λ e. found_stops e)
 other_or_not Other = inl refl
-other_or_not (Broken why p) = inr (λ e. broken_stops e)
+other_or_not (Err b) = inr (λ e. broken_stops e)
 
 module _ (item : ℕ → ℕ → Item) (is : ℕ → ℕ → Item → Type 0) (law : (s f : ℕ) (r : Item) → s ≤ f → (item s f ≡ r) ↔ is s f r) (comma : ℕ → Bool) where
   data Taken (a e : ℕ) : Item → Type 0 where

@@ -7,6 +7,7 @@ use mathlib.Core.List.{List, [], ◌∷◌}
 use mathlib.Core.Logic.{◌↔◌}
 use native.Mathlib.Omega.{arith}
 use lib.ListN.{length}
+use Rattle.std.specs.Prelude.{Ok, Err, Some}
 use Rattle.paths.specs.Places.{byte_in}
 use Rattle.paths.specs.Grammar.{Selector, name, number}
 use Rattle.names.specs.Spelling.{matched}
@@ -15,16 +16,15 @@ use Rattle.query.specs.Walk.{on_found, of_item, framed, filled, name_step, numbe
 use Rattle.walks.specs.Members.{OnlyBlanks, Framed}
 use Rattle.query.specs.Answers.{miss_number, cause_number, refusal_number}
 use Rattle.walks.specs.Conditions.{StepGives, not_object, no_member, no_name, broken_member, member, not_array, no_element, no_number, broken_element, element, StepsGive, done, here, later, WalkGives, blank, within}
-use Rattle.query.specs.declared.items.Item.{Item}
-use Rattle.query.specs.declared.items.Item.TheVariants as Items
+use Rattle.query.specs.Item.{Item}
+use Rattle.query.specs.Item as Items
 use Rattle.query.specs.declared.types.Cause.{Cause}
 use Rattle.query.specs.declared.types.Cause.TheVariants.{NoColon, BadName, EmptyValue, BadEscape}
 use Rattle.query.specs.declared.types.Miss.{Miss}
 use Rattle.query.specs.declared.types.Miss.TheVariants.{NotObject, NotArray, NoName, NoNumber}
 use Rattle.query.specs.declared.types.Refusal.{Refusal}
 use Rattle.query.specs.declared.types.Refusal.TheVariants.{Missed, Broken}
-use Rattle.query.specs.declared.types.Answer.{Answer}
-use Rattle.query.specs.declared.types.Answer.TheVariants.{Found, Refused}
+use Rattle.query.specs.Answer.{Answer, Refused}
 use Rattle.paths.proofs.PlaceLaws.{pick_ind}
 use Rattle.walks.proofs.Members as Values
 use Rattle.walks.proofs.Members.{Value, value_is, value_at_is, framed_exactly, filled_exactly}
@@ -73,9 +73,9 @@ module _ (byte : ℕ → ℕ) (bits : Bits) where
     where
       go : Framed byte 123 125 a e → (OnlyBlanks byte (a + 1) (e - 1) → ⊥) → (it : Item) → first_item (item_at byte bits k (matched n)) (bits.comma k) (a + 1) (e - 1) ≡ it
           → StepGives byte bits k (name n) a e (of_item (Missed NoName k a) k it)
-      go w u (Items.Found p q) h = member w u ((first_stops byte bits k n (a + 1) (e - 1) (omega arith) (Items.Found p q) found_stops).0 h)
+      go w u (Ok (Some part)) h = member w u ((first_stops byte bits k n (a + 1) (e - 1) (omega arith) (Items.Found part.start part.end) found_stops).0 h)
       go w u Items.Other h = no_name w u ((no_such_name byte bits k n (a + 1) (e - 1) (omega arith)).0 h)
-      go w u (Items.Broken why p) h = broken_member w u ((first_stops byte bits k n (a + 1) (e - 1) (omega arith) (Items.Broken why p) broken_stops).0 h)
+      go w u (Err b) h = broken_member w u ((first_stops byte bits k n (a + 1) (e - 1) (omega arith) (Items.Broken b.why b.place) broken_stops).0 h)
 
   number_is : (k m a e : ℕ) → StepGives byte bits k (number m) a e (number_step byte bits k m a e)
   unfolding number_step
@@ -140,7 +140,7 @@ module _ (byte : ℕ → ℕ) (bits : Bits) where
     where
       go : (r : Answer) → StepGives byte bits k s a e r → ((b f : ℕ) → StepsGive byte bits (k + 1) ss b f (walk_from byte bits (k + 1) ss b f))
           → StepsGive byte bits k (s ∷ ss) a e (on_found r (λ b f. walk_from byte bits (k + 1) ss b f) Refused)
-      go (Found b f) g ih = later g (ih b f)
+      go (Ok part) g ih = later g (ih part.start part.end)
       go (Refused why) g ih = here g
 
   gives_from : {k a e : ℕ} {ss : List Selector} {r : Answer} → StepsGive byte bits k ss a e r → walk_from byte bits k ss a e ≡ r

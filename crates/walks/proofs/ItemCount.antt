@@ -14,8 +14,7 @@ use Rattle.rules.proofs.Counting.{count_cat}
 use Rattle.paths.specs.Places.{first_at}
 use Rattle.query.specs.Items.{value_at, item_no}
 use Rattle.walks.specs.Members.{OnlyBlanks, Numbered}
-use Rattle.query.specs.declared.items.Item.{Item}
-use Rattle.query.specs.declared.items.Item.TheVariants.{Other, Broken}
+use Rattle.query.specs.Item.{Item, Other, Broken}
 use Rattle.query.specs.declared.types.Cause.{Cause}
 use Rattle.query.specs.declared.types.Cause.TheVariants.{EmptyValue}
 use Rattle.paths.proofs.PlaceLaws.{pick_ind, first_ge, first_hit, first_miss}

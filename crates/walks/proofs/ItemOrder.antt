@@ -15,7 +15,7 @@ use Rattle.query.specs.Walk.{name_step}
 use Rattle.walks.specs.Conditions.{StepGives}
 use Rattle.query.specs.declared.types.Cause.TheVariants.{NoColon}
 use Rattle.query.specs.declared.types.Refusal.TheVariants.{Broken}
-use Rattle.query.specs.declared.types.Answer.TheVariants.{Found, Refused}
+use Rattle.query.specs.Answer.{Found, Refused}
 use Rattle.walks.proofs.Giving.{step_gives}
 
 -- {"a":1,b,"c":2}

@@ -1,4 +1,5 @@
 -- What the tests of a value and of an item say of places, each exactly: by the first place of a test from the left, and the last from the right.
+use Rattle.std.proofs.Common.{Ok, Err}
 use Prim.Native.Nat.{ℕ, ◌+◌, ◌-◌, ◌≤◌, ◌<◌}
 use mathlib.Core.Path.{◌≡◌, refl, sym, ap, ap₂, ◌∙◌, subst}
 use mathlib.Core.Logic.{◌↔◌}
@@ -9,16 +10,13 @@ use native.Mathlib.Decide.{dec_lt}
 use lib.Dec.{ltb, eqb}
 use borrow.Author.Tests.{ltb-true, ltb-false, lt-ltb, le-ltb, eqb-true, eq-eqb}
 use Rattle.paths.specs.Places.{between, first_at, past_last}
-use Rattle.names.specs.Spelling.{matched, on_match}
+use Rattle.names.specs.Spelling.{matched, on_match, no_escape, Match}
 use Rattle.names.specs.Spells.{Spells, Compares}
-use Rattle.names.specs.declared.Match.{Match}
-use Rattle.names.specs.declared.Match.TheVariants as Matches
 use Rattle.query.specs.Items.{Bits, solid, trim_start, trim_end, value_at, quoted, keyed, item_at}
 use Rattle.query.specs.Walk.{framed, filled}
 use Rattle.walks.specs.Members.{FirstPlace, OnlyBlanks, Trimmed, Framed, Quoted, Whole, Member, no_colon, bad_name, bad_escape, other, empty, found}
 use Rattle.query.specs.declared.types.Cause.TheVariants.{EmptyValue, BadEscape}
-use Rattle.query.specs.declared.items.Item.{Item}
-use Rattle.query.specs.declared.items.Item.TheVariants.{Found, Other, Broken}
+use Rattle.query.specs.Item.{Item, Found, Other, Broken}
 use Rattle.paths.proofs.PlaceLaws.{pick_ind, first_ge, first_le, first_hit, first_miss, first_at_is, first_all, last_none, last_bounds, last_hit, last_miss, last_at}
 use Rattle.paths.proofs.PathLaws.{both_true}
 use Rattle.names.proofs.Spelled.{matched_exactly}
@@ -164,10 +162,10 @@ module _ (byte : ℕ → ℕ) (bits : Bits) (k : ℕ) (n : List ℕ) (s f : ℕ)
   unfolding item_at keyed
   item_at_is h (no_colon o) = rw (first_all (bits.colon k) s f h o, le-ltb f f (omega arith))
   item_at_is h (bad_name {d} c o) = at_colon c ∙ rw ((not-eq-not {a = quoted bits.quote (trim_start byte s d) (trim_end byte s d)} {b = false}).0 (λ y. let z = (quoted_exactly bits.quote _ _).0 y in o _ _ (trimmed byte s d c.from (omega (arith, z.long))) z))
-  item_at_is h (bad_escape w g) = at_name w ∙ rw ((matched_exactly n _ Matches.BadEscape).1 (Compares.bad_escape g))
-  item_at_is h (other w e g) = at_name w ∙ rw ((matched_exactly n _ Matches.Different).1 (Compares.different e g))
-  item_at_is h (empty {d} w e o) = at_name w ∙ rw ((matched_exactly n _ Matches.Same).1 (Compares.same e)) (value_at_is byte (d + 1) f (omega (arith, w.colon.inside)) (blank o))
-  item_at_is h (found {d} w e v) = at_name w ∙ rw ((matched_exactly n _ Matches.Same).1 (Compares.same e)) (value_at_is byte (d + 1) f (omega (arith, w.colon.inside)) (part v))
+  item_at_is h (bad_escape w g) = at_name w ∙ rw ((matched_exactly n _ (Err no_escape)).1 (Compares.bad_escape g))
+  item_at_is h (other w e g) = at_name w ∙ rw ((matched_exactly n _ (Ok false)).1 (Compares.different e g))
+  item_at_is h (empty {d} w e o) = at_name w ∙ rw ((matched_exactly n _ (Ok true)).1 (Compares.same e)) (value_at_is byte (d + 1) f (omega (arith, w.colon.inside)) (blank o))
+  item_at_is h (found {d} w e v) = at_name w ∙ rw ((matched_exactly n _ (Ok true)).1 (Compares.same e)) (value_at_is byte (d + 1) f (omega (arith, w.colon.inside)) (part v))
 
   -- what an item is to a name step
   pub item_exactly : (r : Item) → s ≤ f → (item_at byte bits k (matched n) s f ≡ r) ↔ Member byte bits k n s f r

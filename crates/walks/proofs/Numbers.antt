@@ -9,6 +9,7 @@ use native.Mathlib.Omega.{arith}
 use lib.Dec.{eqb, ltb, leb}
 use lib.ListN.{length}
 use borrow.Author.Tests.{not-true, not-false, ltb-true, ltb-false, leb-true, leb-false, eqb-true, eqb-false, lt-ltb, le-ltb, le-leb, lt-leb, eq-eqb, ne_eqb}
+use Rattle.std.specs.Prelude.{Ok}
 use Rattle.rules.specs.Word.{pick}
 use Rattle.rules.specs.Layout.{width_of, size_of}
 use Rattle.rules.proofs.Booleans.{impossible}
@@ -23,8 +24,7 @@ use Rattle.query.specs.declared.types.Cause.{Cause}
 use Rattle.query.specs.declared.types.Cause.TheVariants.{NoColon, BadName, EmptyValue, BadEscape}
 use Rattle.query.specs.declared.types.Refusal.{Refusal}
 use Rattle.query.specs.declared.types.Refusal.TheVariants.{EmptyRecord, LongRecord, BadLevels, BadBuffer, BadPath, TooLarge, TooDeep, Missed, Broken}
-use Rattle.query.specs.declared.types.Answer.{Answer}
-use Rattle.query.specs.declared.types.Answer.TheVariants.{Found, Refused}
+use Rattle.query.specs.Answer.{Answer, Found, Refused}
 use Rattle.paths.proofs.PlaceLaws.{pick_ind}
 use Rattle.paths.proofs.Reading.{reads, read_is_path, refused_is_place, place_is_refused}
 use Rattle.walks.proofs.Giving.{walk_gives, walk_number}
@@ -128,7 +128,7 @@ module _ (text words : List ℕ) (levels : ℕ) (path : List ℕ) where
   walks {ss} w g = record { selectors = ss; walkable = w; gives = g }
 
   walked_number : {ss : List Selector} → Walkable text words levels path ss → (r : Answer) → WalkGives text (lent words levels (width_of (length text))) ss r → Condition (number_of r)
-  walked_number {ss} w (Found s e) g = (s, e, walks w g)
+  walked_number {ss} w (Ok part) g = (part.start, part.end, walks w g)
   walked_number {ss} w (Refused why) g = halted why g (walk_number text (lent words levels (width_of (length text))) ss g)
     where
       halted : (why : Refusal) → WalkGives text (lent words levels (width_of (length text))) ss (Refused why) → 23 ≤ refusal_number why → Condition (refusal_number why)

@@ -6,6 +6,7 @@ use mathlib.Core.Logic.{inl, inr}
 use mathlib.Core.List.{List, ◌∷◌}
 use native.Mathlib.Omega.{arith}
 use lib.ListN.{length, take}
+use Rattle.std.specs.Prelude.{Ok}
 use Rattle.rules.specs.Layout.{width_of}
 use Rattle.paths.specs.Places.{byte_in}
 use Rattle.paths.specs.Grammar.{Selector}
@@ -14,13 +15,12 @@ use Rattle.query.specs.Answers.{refusal_number, refusal_place, refusal_step, num
 use Rattle.walks.specs.Members.{Bracketed, Borders, Member, no_colon, bad_name, bad_escape}
 use Rattle.walks.specs.Members as Members
 use Rattle.walks.specs.Conditions.{StepGives, not_object, no_member, no_name, broken_member, not_array, no_element, no_number, broken_element, StepsGive, done, here, later, WalkGives, blank, within, Given, empty, long, levels_out, other_buffer, long_path, no_path, large_number, deep, walked, Tells, miss, broken, all_blank, WalkTells}
-use Rattle.query.specs.declared.items.Item.TheVariants as Items
+use Rattle.query.specs.Item as Items
 use Rattle.query.specs.declared.types.Miss.{Miss}
 use Rattle.query.specs.declared.types.Cause.{Cause}
 use Rattle.query.specs.declared.types.Refusal.{Refusal}
 use Rattle.query.specs.declared.types.Refusal.TheVariants.{EmptyRecord, LongRecord, BadLevels, BadBuffer, BadPath, TooLarge, TooDeep, Missed, Broken}
-use Rattle.query.specs.declared.types.Answer.{Answer}
-use Rattle.query.specs.declared.types.Answer.TheVariants.{Found, Refused}
+use Rattle.query.specs.Answer.{Answer, Found, Refused}
 use Rattle.query.proofs.Inside.{InRecord, walk_in}
 use Rattle.walks.proofs.Borders.{cut_to}
 use Rattle.walks.proofs.Giving.{miss_number_range, cause_number_range, walk_gives}
@@ -100,7 +100,7 @@ module _ (text words : List ℕ) (levels : ℕ) (path : List ℕ) where
   stopped (walked {r} {ss} w g) h = go r g h
     where
       go : (r : Answer) → WalkGives text (lent words levels (width_of (length text))) ss r → 23 ≤ number_of r → WalkTells text words levels path (number_of r) (step_of r) (place_of r)
-      go (Found s e) g h = absurd (omega arith)
+      go (Ok part) g h = absurd (omega arith)
       go (Refused why) g h = record { selectors = ss; walkable = w; tells = walk_tells text (lent words levels (width_of (length text))) ss g }
 
   -- of a query
@@ -115,7 +115,7 @@ module _ (text words : List ℕ) (levels : ℕ) (path : List ℕ) where
 
 -- all other answers tell no step
 pub no_step : (r : Answer) → number_of r < 23 → step_of r ≡ 0
-no_step (Found s e) l = refl
+no_step (Ok part) l = refl
 no_step (Refused EmptyRecord) l = refl
 no_step (Refused LongRecord) l = refl
 no_step (Refused BadLevels) l = refl

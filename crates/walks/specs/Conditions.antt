@@ -8,15 +8,14 @@ use Rattle.paths.specs.Path.{large}
 use Rattle.query.specs.Items.{Bits, lent}
 use Rattle.query.specs.Answers.{miss_number, cause_number, number_of, place_of, step_of, answer_of}
 use Rattle.walks.specs.Members.{OnlyBlanks, Trimmed, Framed, Bracketed, Borders, Numbered, AllOther, FirstIs, Member}
-use Rattle.query.specs.declared.items.Item.TheVariants as Items
+use Rattle.query.specs.Item as Items
 use Rattle.query.specs.declared.types.Cause.{Cause}
 use Rattle.query.specs.declared.types.Cause.TheVariants.{EmptyValue}
 use Rattle.query.specs.declared.types.Miss.{Miss}
 use Rattle.query.specs.declared.types.Miss.TheVariants.{NotObject, NotArray, NoName, NoNumber}
 use Rattle.query.specs.declared.types.Refusal.{Refusal}
 use Rattle.query.specs.declared.types.Refusal.TheVariants.{EmptyRecord, LongRecord, BadLevels, BadBuffer, BadPath, TooLarge, TooDeep, Missed, Broken}
-use Rattle.query.specs.declared.types.Answer.{Answer}
-use Rattle.query.specs.declared.types.Answer.TheVariants.{Found, Refused}
+use Rattle.query.specs.Answer.{Answer, Found, Refused}
 
 -- ---- the walk
 

@@ -5,8 +5,7 @@ use Rattle.paths.specs.Places.{between}
 use Rattle.names.specs.Spells.{Spells}
 use Rattle.query.specs.Items.{Bits, solid}
 use Rattle.query.specs.declared.types.Cause.TheVariants.{NoColon, BadName, EmptyValue, BadEscape}
-use Rattle.query.specs.declared.items.Item.{Item}
-use Rattle.query.specs.declared.items.Item.TheVariants.{Found, Other, Broken}
+use Rattle.query.specs.Item.{Item, Found, Other, Broken}
 
 -- t holds at none of the places a, .., e - 1
 abbrev pub Nowhere : (ℕ → Bool) → ℕ → ℕ → Type 0

@@ -1,15 +1,12 @@
 -- A turn of a loop is a call of the run: what is left to run from here gives what all gave from the start.
-use Prim.Native.Nat.{ℕ, suc, ◌+◌, ◌-◌, ◌≤◌, ◌<◌, ◌%◌, ◌/◌}
-use mathlib.Core.Path.{◌≡◌, ap, ◌∙◌, subst}
-use mathlib.Core.Bool.{Bool, true, false}
+use Prim.Native.Nat.{ℕ, suc, ◌+◌, ◌-◌, ◌≤◌, ◌<◌}
+use mathlib.Core.Path.{◌≡◌, ap, ◌∙◌}
+use mathlib.Core.Bool.{Bool, false}
 use mathlib.Core.List.{List}
-use native.Mathlib.Decide.{ℕ_discrete}
 use native.Mathlib.Omega.{arith}
 use native.Mathlib.Numerals.{add-one}
 use lib.ListN.{length, get_or, drop, drop_of_length-le}
 use lib.Seq.{drop-cons}
-use lib.Dec.{eqb}
-use borrow.Author.Tests.{eq-eqb, ne_eqb}
 use Rattle.index.specs.declared.Job.{Job}
 use Rattle.index.specs.declared.Handed.{Handed}
 use Rattle.index.specs.Outcomes.{ScanGives, SettleGives, LevelGives}
@@ -18,37 +15,17 @@ use Rattle.runs.specs.Whole.{held, scans, finishes}
 use Rattle.whole.specs.Calls.{call_of, calls_of}
 
 module _ (text words after : List ℕ) (j : Job) (h : Handed) (k : ℕ) where
-  scan_acts : (g : Bool) → ScanGives j text words k g h after → held h.job after ≡ act text (scan k g) (held j words)
+  pub scan_acts : (g : Bool) → ScanGives j text words k g h after → held h.job after ≡ act text (scan k g) (held j words)
   unfolding act
   scan_acts g e = rw (e.hands, e.leaves)
 
-  settle_acts : SettleGives j text words k h after → held h.job after ≡ act text (settle k) (held j words)
+  pub settle_acts : SettleGives j text words k h after → held h.job after ≡ act text (settle k) (held j words)
   unfolding act
   settle_acts e = rw (e.hands, e.leaves)
 
-  level_acts : LevelGives j text words k h after → held h.job after ≡ act text (level k) (held j words)
+  pub level_acts : LevelGives j text words k h after → held h.job after ≡ act text (level k) (held j words)
   unfolding act
   level_acts e = rw (e.hands, e.leaves)
-
--- ---- a call by its number
-
-module _ (text words after : List ℕ) (j : Job) (h : Handed) (c : ℕ) where
-  pub settle_called : c % 4 ≡ 2 → SettleGives j text words (c / 4) h after → held h.job after ≡ act text (call_of c) (held j words)
-  unfolding call_of
-  settle_called p e = rw (ne_eqb (c % 4) 0 (omega arith), ne_eqb (c % 4) 1 (omega arith), eq-eqb (c % 4) 2 p) (settle_acts text words after j h (c / 4) e)
-
-  pub level_called : c % 4 ≡ 3 → LevelGives j text words (c / 4) h after → held h.job after ≡ act text (call_of c) (held j words)
-  unfolding call_of
-  level_called p e = rw (ne_eqb (c % 4) 0 (omega arith), ne_eqb (c % 4) 1 (omega arith), ne_eqb (c % 4) 2 (omega arith)) (level_acts text words after j h (c / 4) e)
-
-  -- neither: the guess is 'inside' where the step is 1
-  pub scan_called : (c % 4 ≡ 2 → ⊥) → (c % 4 ≡ 3 → ⊥) → ScanGives j text words (c / 4) (eqb (c % 4) 1) h after → held h.job after ≡ act text (call_of c) (held j words)
-  unfolding call_of
-  scan_called n m e = go (ℕ_discrete (c % 4) 1)
-    where
-      go : Dec (c % 4 ≡ 1) → held h.job after ≡ act text (call_of c) (held j words)
-      go (yes p) = rw (ne_eqb (c % 4) 0 (omega arith), eq-eqb (c % 4) 1 p) (scan_acts text words after j h (c / 4) true (subst (λ (g : Bool). ScanGives j text words (c / 4) g h after) (eq-eqb (c % 4) 1 p) e))
-      go (no q) = rw (eq-eqb (c % 4) 0 (omega (arith, n, m, q))) (scan_acts text words after j h (c / 4) false (subst (λ (g : Bool). ScanGives j text words (c / 4) g h after) (ne_eqb (c % 4) 1 q) e))
 
 -- ---- a turn of each loop
 

@@ -1,15 +1,10 @@
 -- Without a backslash a name's characters are its bytes.
-use Rattle.paths.specs.Places.{byte_in}
+use mathlib.Core.Path.{sym, ◌∙◌}
 use Rattle.names.specs.Spelling.{matched}
-use Rattle.names.proofs.SpellingLaws.{plain_spelling, plain_between}
+use Rattle.names.proofs.Comparing.{same_is}
+use Rattle.names.proofs.SpellingLaws.{plain_any, plain_spelling}
 use Rattle.names.proofs.match_name.Goals as goal
 
-pub returns-then-same_bytes : goal.returns-then-same_bytes
+pub returns-else-contains : goal.returns-else-contains
 unfolding matched
-returns-then-same_bytes c = let a = c.args in
-    rw (plain_spelling _ (plain_between (byte_in a.text.now) a.p a.q (c.is_plain.ensures c.if-not-is_plain.false)), ← c.same_bytes.ensures, c.if-same_bytes.true)
-
-pub returns-else-same_bytes : goal.returns-else-same_bytes
-unfolding matched
-returns-else-same_bytes c = let a = c.args in
-    rw (plain_spelling _ (plain_between (byte_in a.text.now) a.p a.q (c.is_plain.ensures c.if-not-is_plain.false)), ← c.same_bytes.ensures, c.if-same_bytes.false)
+returns-else-contains c = rw (plain_spelling c.args.name.now (plain_any c.args.name.now (sym c.contains.ensures.value ∙ c.if-contains.false)), same_is, c.eq.ensures)

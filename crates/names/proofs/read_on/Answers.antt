@@ -1,33 +1,41 @@
 -- The loop keeps that the rest from where it stands decides.
-use mathlib.Core.Path.{refl, sym, ap, ◌∙◌}
+use mathlib.Core.Path.{sym, ap, ◌∙◌}
 use native.Mathlib.Omega.{arith}
-use Rattle.paths.specs.Places.{byte_in}
+use borrow.Author.Rules.{rules}
+use borrow.Author.Tests.{eqb-true, eqb-false}
+use lib.ListN.{length}
+use Rattle.paths.proofs.PlaceLaws.{rest_is}
+use Rattle.names.specs.Spelling.{spelling}
 use Rattle.names.specs.Helpers.{another}
-use Rattle.names.proofs.SpellingLaws.{few_more, reads_none, reads_wrong, reads_on}
+use Rattle.names.proofs.SpellingLaws.{spelling_none, spelt_in, reads_wrong, reads_on, none_left}
 use Rattle.names.proofs.read_on.Goals as goal
 
-pub loop-i-init : goal.loop-i-init
-loop-i-init c = (omega arith, refl)
+pub returns-in_err-here : goal.returns-in_err-here
+returns-in_err-here c = let l = c.loop-rest in
+    let n = eqb-false (length l.rest.now) 0 (sym c.is_empty.ensures ∙ c.loop-rest-test.true) in
+    rw (l.invariant, reads_wrong l.rest.now (omega arith) (sym c.spelt_at.ensures ∙ c.in_err-here.was)) (search rules)
 
-pub returns-in_default : goal.returns-in_default
-returns-in_default c = let a = c.args in
-    let l = c.loop-i in
-    sym (l.invariant.1 ∙ ap another (reads_wrong (byte_in a.text.now) l.i a.q c.loop-i-test.true (sym c.spelt_at-here.ensures ∙ c.in_default.is)))
+pub overflow_add-rest : goal.overflow_add-rest
+overflow_add-rest c = let l = c.loop-rest in
+    let n = eqb-false (length l.rest.now) 0 (sym c.is_empty.ensures ∙ c.loop-rest-test.true) in
+    omega (arith, spelt_in l.rest.now (omega arith) (sym c.spelt_at.ensures ∙ c.in_ok-here.was))
 
-pub overflow_add-i : goal.overflow_add-i
-overflow_add-i c = omega arith
+pub slice_bounds-rest-count : goal.slice_bounds-rest-count
+slice_bounds-rest-count c = let l = c.loop-rest in
+    let n = eqb-false (length l.rest.now) 0 (sym c.is_empty.ensures ∙ c.loop-rest-test.true) in
+    omega (arith, spelt_in l.rest.now (omega arith) (sym c.spelt_at.ensures ∙ c.in_ok-here.was))
 
-pub overflow_add-i-in-loop-i : goal.overflow_add-i-in-loop-i
-overflow_add-i-in-loop-i c = omega (arith, few_more _ (sym c.spelt_at-here.ensures ∙ c.in-One.is))
+pub slice_bounds-rest-start : goal.slice_bounds-rest-start
+slice_bounds-rest-start c = let l = c.loop-rest in
+    let n = eqb-false (length l.rest.now) 0 (sym c.is_empty.ensures ∙ c.loop-rest-test.true) in
+    omega (arith, spelt_in l.rest.now (omega arith) (sym c.spelt_at.ensures ∙ c.in_ok-here.was))
 
-pub loop-i-smaller : goal.loop-i-smaller
-loop-i-smaller c = omega arith
-
-pub loop-i-preserved : goal.loop-i-preserved
-loop-i-preserved c = let a = c.args in
-    let l = c.loop-i in
-    let e = sym c.spelt_at-here.ensures ∙ c.in-One.is in
-    (omega (arith, few_more _ e), l.invariant.1 ∙ reads_on (byte_in a.text.now) l.i a.q c.loop-i-test.true e)
+pub loop-rest-preserved : goal.loop-rest-preserved
+loop-rest-preserved c = let l = c.loop-rest in
+    let n = eqb-false (length l.rest.now) 0 (sym c.is_empty.ensures ∙ c.loop-rest-test.true) in
+    l.invariant ∙ reads_on l.rest.now (omega arith) (sym c.spelt_at.ensures ∙ c.in_ok-here.was) ∙ ap (λ bs. another (spelling bs)) (sym (rest_is l.rest.now _))
 
 pub returns : goal.returns
-returns c = let a = c.args in sym (c.loop-i.invariant.1 ∙ ap another (reads_none (byte_in a.text.now) c.loop-i.i a.q (omega arith)))
+returns c = let l = c.loop-rest in
+    let n = none_left l.rest.now (eqb-true _ _ (sym c.is_empty.ensures ∙ c.loop-rest-test.false)) in
+    sym (l.invariant ∙ ap (λ bs. another (spelling bs)) n ∙ ap another spelling_none)

@@ -1,21 +1,9 @@
 -- The byte behind the backslash, if the name has one.
 use native.Mathlib.Omega.{arith}
-use borrow.Author.Tests.{lt-ltb}
-use Rattle.paths.specs.Places.{byte_in}
+use lib.ListN.{get_or-eq_default}
 use Rattle.names.specs.Spelling.{short_of}
-use Rattle.names.proofs.SpellingLaws.{byte_between, none_between}
 use Rattle.names.proofs.short_at.Goals as goal
 
-pub returns-then-q-i : goal.returns-then-q-i
+pub returns-then-name-lt2 : goal.returns-then-name-lt2
 unfolding short_of
-returns-then-q-i c = let a = c.args in rw (none_between (byte_in a.text.now) a.i a.q 1 (omega arith))
-
-pub returns-then-character-eq0 : goal.returns-then-character-eq0
-unfolding byte_in
-returns-then-character-eq0 c = let a = c.args in
-    rw (byte_between (byte_in a.text.now) a.i a.q 1 (omega arith), ← c.short_of-character.ensures, c.if-character-eq0.true)
-
-pub returns : goal.returns
-unfolding byte_in
-returns c = let a = c.args in
-    rw (byte_between (byte_in a.text.now) a.i a.q 1 (omega arith), ← c.short_of-character.ensures, lt-ltb 0 c.short_of-character.result (omega arith))
+returns-then-name-lt2 c = rw (get_or-eq_default c.args.name.now 0 {n = 1} (omega arith))

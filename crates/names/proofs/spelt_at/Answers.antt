@@ -1,24 +1,28 @@
 -- Test by test, as the definition.
-use mathlib.Core.Path.{sym, ◌∙◌}
-use native.Mathlib.Omega.{arith}
-use Rattle.paths.specs.Places.{byte_in}
-use Rattle.names.proofs.SpellingLaws.{reads_plain, reads_wide, reads_short}
+use mathlib.Core.Path.{sym, ap, ◌∙◌}
+use borrow.Author.Tests.{ne_eqb, ltb-true}
+use Rattle.paths.proofs.PlaceLaws.{rest_is}
+use Rattle.names.specs.Spelling.{unit_of, wide, spelt}
+use Rattle.rules.proofs.Booleans.{told_some, told_none}
+use Rattle.names.proofs.SpellingLaws.{unit_long}
 use Rattle.names.proofs.spelt_at.Goals as goal
 
-pub overflow_cast-result : goal.overflow_cast-result
-overflow_cast-result c = omega (arith, c.type_inv.text c.args.i)
+pub returns-then-name-ne92 : goal.returns-then-name-ne92
+unfolding spelt
+returns-then-name-ne92 c = rw (ne_eqb _ _ c.if-name-ne92.true)
 
-pub returns-then-text-i-ne92 : goal.returns-then-text-i-ne92
-unfolding byte_in
-returns-then-text-i-ne92 c = let a = c.args in sym (reads_plain (byte_in a.text.now) a.i a.q (omega arith) c.if-text-i-ne92.true)
+pub slice_bounds-wide_of-count : goal.slice_bounds-wide_of-count
+slice_bounds-wide_of-count c = unit_long c.args.name.now (ltb-true _ _ (told_some _ _ (sym c.unit_at.ensures ∙ c.in-Some.is)).0)
 
-pub returns-then-u-lt65536 : goal.returns-then-u-lt65536
-unfolding byte_in
-returns-then-u-lt65536 c = let a = c.args in
-    let e = c.unit_at-u.ensures in
-    c.wide_of.ensures ∙ rw (e, c.unit_at-v.ensures) (sym (reads_wide (byte_in a.text.now) a.i a.q (omega arith) c.if-text-i-ne92.false (rw e at c.if-u-lt65536.true)))
+pub slice_bounds-wide_of-start : goal.slice_bounds-wide_of-start
+slice_bounds-wide_of-start c = unit_long c.args.name.now (ltb-true _ _ (told_some _ _ (sym c.unit_at.ensures ∙ c.in-Some.is)).0)
 
-pub returns : goal.returns
-unfolding byte_in
-returns c = let a = c.args in
-    c.short_at.ensures ∙ sym (reads_short (byte_in a.text.now) a.i a.q (omega arith) c.if-text-i-ne92.false (rw c.unit_at-u.ensures at c.if-u-lt65536.false))
+pub returns-in-Some : goal.returns-in-Some
+unfolding spelt
+returns-in-Some c = let n = c.args.name.now in
+    let t = told_some _ _ (sym c.unit_at.ensures ∙ c.in-Some.is) in
+    rw (c.if-name-ne92.false, t.0, t.1) (c.wide_of.ensures ∙ ap (λ bs. wide c.in-Some.u (unit_of bs)) (rest_is n 6))
+
+pub returns-in-None : goal.returns-in-None
+unfolding spelt
+returns-in-None c = rw (c.if-name-ne92.false, told_none _ _ (sym c.unit_at.ensures ∙ c.in-None.is)) c.short_at.ensures

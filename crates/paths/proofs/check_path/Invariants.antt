@@ -4,8 +4,8 @@ use lib.ListN.{length}
 use Rattle.paths.proofs.Checking.{Checking}
 use Rattle.paths.proofs.check_path.Given as goal
 
-abbrev pub invariant-loop-next : goal.invariant-loop-next
-invariant-loop-next l = Checking l.path l.levels l.at l.big l.steps
+abbrev pub invariant-loop-step : goal.invariant-loop-step
+invariant-loop-step l = Checking l.path l.levels l.at l.big l.steps
 
-abbrev pub decreases-loop-next : goal.decreases-loop-next
-decreases-loop-next l = length l.path - l.at
+abbrev pub decreases-loop-step : goal.decreases-loop-step
+decreases-loop-step l = length l.path - l.at

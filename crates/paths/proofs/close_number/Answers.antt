@@ -1,20 +1,26 @@
 -- Test by test, as the definition.
+use Prim.Native.Nat.{min}
+use mathlib.Core.Path.{◌≡◌, refl}
+use mathlib.Core.Bool.{false}
 use native.Mathlib.Omega.{arith}
+use lib.Dec.{eqb}
+use lib.ListN.{get_or}
 use borrow.Author.Tests.{ne_eqb}
-use lib.ListN.{get_or-eq_default}
+use Rattle.paths.specs.Helpers.{told}
+use Rattle.paths.proofs.PathLaws.{behind}
 use Rattle.paths.proofs.close_number.Goals as goal
-
-pub returns-then-path-end : goal.returns-then-path-end
-returns-then-path-end c = rw (get_or-eq_default c.args.path.now 0 c.if-path-end.true)
-
-pub bounds-path-end : goal.bounds-path-end
-bounds-path-end c = omega arith
-
-pub overflow_add-result : goal.overflow_add-result
-overflow_add-result c = omega arith
+use Rattle.paths.proofs.close_number.Goals.{else-end-path-via-then-end-path+else-path-end-eq93, else-end-path-via-else-end-path}
 
 pub returns-then-path-end-eq93 : goal.returns-then-path-end-eq93
-returns-then-path-end-eq93 c = rw c.if-path-end-eq93.true
+unfolding told
+returns-then-path-end-eq93 c = let m : min c.args.value 16777216 ≡ c.args.value = omega arith in rw (c.if-path-end-eq93.true, m)
 
-pub returns-else-path-end-eq93 : goal.returns-else-path-end-eq93
-returns-else-path-end-eq93 c = rw (ne_eqb _ _ c.if-path-end-eq93.false)
+pub returns-else-end-path : goal.returns-else-end-path
+unfolding told
+returns-else-end-path c = let a = c.args in
+    let n : eqb (get_or a.path.now a.end 0) 93 ≡ false =
+    elim c.else-end-path.branch [
+      | else-end-path-via-then-end-path+else-path-end-eq93 w ↦ ne_eqb _ _ w.if-path-end-eq93.false
+      | else-end-path-via-else-end-path w ↦ behind (λ b. eqb b 93) refl a.path.now a.end w.if-end-path.false
+    ] in
+    rw n

@@ -1,21 +1,23 @@
--- Test by test, as the definition.
-use native.Mathlib.Omega.{arith}
-use lib.ListN.{get_or-eq_default}
+-- By the class of its first byte.
+use mathlib.Core.Path.{◌≡◌, sym, ◌∙◌}
+use mathlib.Core.Bool.{false}
+use lib.ListN.{get_or}
 use Rattle.paths.specs.Path.{is_head}
+use Rattle.paths.specs.Helpers.{told}
+use Rattle.paths.proofs.PathLaws.{name_some, name_none, head_behind}
 use Rattle.paths.proofs.read_name.Goals as goal
+use Rattle.paths.proofs.read_name.Goals.{else-from-path-via-then-from-path+else-is_head, else-from-path-via-else-from-path}
 
-pub returns-then-path-from : goal.returns-then-path-from
-unfolding is_head
-returns-then-path-from c = rw (get_or-eq_default c.args.path.now 0 c.if-path-from.true)
+pub returns-then-is_head : goal.returns-then-is_head
+unfolding told
+returns-then-is_head c = let a = c.args in rw (name_some a.path.now a.from (sym c.is_head.ensures ∙ c.if-is_head.true), c.name_end-end.ensures)
 
-pub bounds-path-from : goal.bounds-path-from
-bounds-path-from c = omega arith
-
-pub returns-then-not-is_head : goal.returns-then-not-is_head
-returns-then-not-is_head c = rw (← c.is_head.ensures, c.if-not-is_head.true)
-
-pub overflow_add-from : goal.overflow_add-from
-overflow_add-from c = omega arith
-
-pub returns : goal.returns
-returns c = rw (← c.is_head.ensures, c.if-not-is_head.false, c.name_end-end.ensures)
+pub returns-else-from-path : goal.returns-else-from-path
+unfolding told
+returns-else-from-path c = let a = c.args in
+    let n : is_head (get_or a.path.now a.from 0) ≡ false =
+    elim c.else-from-path.branch [
+      | else-from-path-via-then-from-path+else-is_head w ↦ sym w.is_head.ensures ∙ w.if-is_head.false
+      | else-from-path-via-else-from-path w ↦ head_behind a.path.now a.from w.if-from-path.false
+    ] in
+    rw (name_none a.path.now a.from n)

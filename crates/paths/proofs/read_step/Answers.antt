@@ -1,34 +1,32 @@
 -- Test by test, as the definition.
 use native.Mathlib.Omega.{arith}
-use Prim.Native.Nat.{◌+◌}
-use mathlib.Core.Path.{sym, ◌∙◌}
+use borrow.Author.Rules.{rules}
 use borrow.Author.Tests.{ne_eqb, lt-ltb, le-ltb}
+use lib.ListN.{get_or}
 use Rattle.paths.specs.Path.{step_at}
 use Rattle.paths.specs.Helpers.{told}
-use Rattle.paths.proofs.PathLaws.{told_name}
 use Rattle.paths.proofs.read_step.Goals as goal
 
 pub returns-then-path-at : goal.returns-then-path-at
 unfolding told step_at
 returns-then-path-at c = rw (le-ltb _ _ c.if-path-at.true)
 
-pub bounds-path-at : goal.bounds-path-at
-bounds-path-at c = omega arith
-
-pub overflow_add-at : goal.overflow_add-at
-overflow_add-at c = omega arith
-
-pub returns-then-b-eq46 : goal.returns-then-b-eq46
+pub returns-in_err-read_name-in-46 : goal.returns-in_err-read_name-in-46
 unfolding step_at
-returns-then-b-eq46 c = let a = c.args in rw (lt-ltb _ _ c.if-path-at.false, c.if-b-eq46.true) (c.read_name.ensures ∙ sym (told_name a.path.now (a.at + 1)))
+returns-in_err-read_name-in-46 c = rw (lt-ltb _ _ c.if-path-at.false, c.in-46.is, ← (rw c.in_err-read_name-in-46.was at c.read_name.ensures)) (search rules)
 
-pub overflow_add-at-then-b-eq91 : goal.overflow_add-at-then-b-eq91
-overflow_add-at-then-b-eq91 c = omega arith
-
-pub returns-then-b-eq91 : goal.returns-then-b-eq91
+pub returns-in_err-read_number-in-91 : goal.returns-in_err-read_number-in-91
 unfolding step_at
-returns-then-b-eq91 c = rw (lt-ltb _ _ c.if-path-at.false, ne_eqb _ _ c.if-b-eq46.false, c.if-b-eq91.true) c.read_number.ensures
+returns-in_err-read_number-in-91 c = rw (lt-ltb _ _ c.if-path-at.false, c.in-91.is, ← (rw c.in_err-read_number-in-91.was at c.read_number.ensures)) (search rules)
 
-pub returns : goal.returns
+pub returns-in_ok-read_name-in-46 : goal.returns-in_ok-read_name-in-46
+unfolding step_at
+returns-in_ok-read_name-in-46 c = rw (lt-ltb _ _ c.if-path-at.false, c.in-46.is) (rw c.in_ok-read_name-in-46.was at c.read_name.ensures)
+
+pub returns-in_ok-read_number-in-91 : goal.returns-in_ok-read_number-in-91
+unfolding step_at
+returns-in_ok-read_number-in-91 c = rw (lt-ltb _ _ c.if-path-at.false, c.in-91.is) (rw c.in_ok-read_number-in-91.was at c.read_number.ensures)
+
+pub returns-in_default : goal.returns-in_default
 unfolding told step_at
-returns c = rw (lt-ltb _ _ c.if-path-at.false, ne_eqb _ _ c.if-b-eq46.false, ne_eqb _ _ c.if-b-eq91.false)
+returns-in_default c = let b = get_or c.args.path.now c.args.at 0 in rw (lt-ltb _ _ c.if-path-at.false, ne_eqb b 46 (omega arith), ne_eqb b 91 (omega arith))

@@ -1,18 +1,12 @@
--- By the number of the step: the call that the code makes is the one that the byte tells.
-use Rattle.whole.proofs.Turns.{scan_called, settle_called, level_called}
+-- By the step: what it hands back and leaves is what the run's call does.
+use Rattle.whole.proofs.Turns.{scan_acts, settle_acts, level_acts}
 use Rattle.whole.proofs.make_call.Goals as goal
 
-pub returns-then-step-eq2 : goal.returns-then-step-eq2
-returns-then-step-eq2 c = let a = c.args in
-    let s = c.settle-settled in
-    settle_called _ _ _ a.job s.result a.call c.if-step-eq2.true s.ensures
+pub returns-in-Scan : goal.returns-in-Scan
+returns-in-Scan c = rw c.in-Scan.is (scan_acts _ _ _ c.args.job c.scan.result c.in-Scan.chunk c.in-Scan.inside c.scan.ensures)
 
-pub returns-then-step-eq3 : goal.returns-then-step-eq3
-returns-then-step-eq3 c = let a = c.args in
-    let s = c.level-levelled in
-    level_called _ _ _ a.job s.result a.call c.if-step-eq3.true s.ensures
+pub returns-in-Settle : goal.returns-in-Settle
+returns-in-Settle c = rw c.in-Settle.is (settle_acts _ _ _ c.args.job c.settle.result c.in-Settle.chunk c.settle.ensures)
 
-pub returns : goal.returns
-returns c = let a = c.args in
-    let s = c.scan-scanned in
-    scan_called _ _ _ a.job s.result a.call c.if-step-eq2.false c.if-step-eq3.false s.ensures
+pub returns-in-Level : goal.returns-in-Level
+returns-in-Level c = rw c.in-Level.is (level_acts _ _ _ c.args.job c.level.result c.in-Level.chunk c.level.ensures)

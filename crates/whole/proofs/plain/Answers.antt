@@ -19,8 +19,8 @@ returns c = let a = c.args in
     let o = c.open-opened in
     let m = length a.cuts.now + 1 in
     let all = closed_whole a.text.now a.words.now a.levels a.cuts.now (plainly m) o.result o.ensures c.in-Done.is
-    _ _ _ c.close-closed.result
+    _ _ _ c.close.result
     (c.finish_all-finished.ensures ∙ ap (run a.text.now (finishes 0 m)) c.scan_all-scanned.ensures
     ∙ sym (run_append a.text.now (scans m) (finishes 0 m) (held o.result.job a.words.now)))
-    c.close-closed.ensures in
+    c.close.ensures in
     record { value = all.0; words_after = all.1 }

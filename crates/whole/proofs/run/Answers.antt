@@ -13,5 +13,5 @@ pub returns : goal.returns
 returns c = let a = c.args in
     let o = c.open-opened in
     let all = closed_whole a.text.now a.words.now a.levels a.cuts.now (calls_of a.calls.now) o.result o.ensures c.in-Done.is
-    _ _ _ c.close-closed.result c.make_calls-stepped.ensures c.close-closed.ensures in
+    _ _ _ c.close.result c.make_calls-stepped.ensures c.close.ensures in
     record { value = all.0; words_after = all.1 }

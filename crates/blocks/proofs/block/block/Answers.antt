@@ -28,7 +28,7 @@ pub returns : goal.returns
 returns c = λ table.
     let a = c.args in
     let small : (i : ℕ) → get_or a.text.now i 0 < 256 = λ i. omega (arith, c.type_inv.text i) in
-    let p = c.padded-p in
+    let p = c.padded in
     let same : (j : ℕ) → get_or p.result (0 + j) 0 ≡ get_or a.text.now (a.at + j) 0 = λ j. ap (λ (i : ℕ). get_or p.result i 0) (zero-add j) ∙ p.ensures j in
     of_bytes a.text.now a.at small table
     (c.sorted-2.ensures _ (c.full_block-2.ensures _ (λ j l. ap (λ (b : ℕ). get_or a.t.now b 0) (same j) ∙ has_codes a.text.now a.at small table j l)))

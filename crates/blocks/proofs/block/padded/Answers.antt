@@ -1,8 +1,9 @@
--- `padded` meets its contract: the bytes below j are copied, and the others are still 0.
-use Rattle.std.proofs.Common.{◌≡◌, ℕ, ◌+◌, ◌<◌, ◌≤◌, List, length, get_or, replicate, sym, refl, ◌∙◌, lt_of_not-le, arith, length-set, get_or-set_other, rules}
+-- `padded` meets its contract: the bytes from at on, and behind them zeros still.
+use Rattle.std.proofs.Common.{◌≡◌, ℕ, ◌+◌, ◌-◌, ◌<◌, ◌≤◌, List, ◌++◌, length, get_or, get_or-drop, take, drop, replicate, sym, ap, ◌∙◌, lt_of_not-le, arith}
 use native.Mathlib.Decide.{dec_lt}
 use lib.ListN.{length-replicate, get_or-replicate, get_or-eq_default}
-use Rattle.blocks.proofs.Filling.{fill_next}
+use Rattle.std.proofs.Math.Seq.{get_or-append_right}
+use Rattle.std.proofs.lemmas.List.{places}
 use Rattle.blocks.proofs.block.padded.Goals as goal
 
 abbrev zeros : List ℕ
@@ -13,34 +14,25 @@ blank k = go (dec_lt k 64)
   where
     go : Dec (k < 64) → get_or zeros k 0 ≡ 0
     go (yes l) = get_or-replicate 64 k 0 0 l
-    go (no n) = get_or-eq_default zeros 0 out
-      where
-        out : length zeros ≤ k
-        out = omega (arith, lt_of_not-le n, length-replicate {A = ℕ} 64 0)
+    go (no n) = get_or-eq_default zeros 0 {n = k} (omega (arith, lt_of_not-le n, length-replicate {A = ℕ} 64 0))
 
-past : (text : List ℕ) (at : ℕ) (p : List ℕ) (j k : ℕ) → length text ≤ at + j → ((i : ℕ) → i < j → get_or p i 0 ≡ get_or text (at + i) 0)
-    → ((i : ℕ) → j ≤ i → get_or p i 0 ≡ 0) → get_or p k 0 ≡ get_or text (at + k) 0
-past text at p j k l low high = go (dec_lt k j)
-  where
-    go : Dec (k < j) → get_or p k 0 ≡ get_or text (at + k) 0
-    go (yes m) = low k m
-    go (no n) = high k (omega (arith, lt_of_not-le n)) ∙ sym (get_or-eq_default text 0 (omega (arith, lt_of_not-le n)))
+module _ (text : List ℕ) (at : ℕ) (l : at ≤ length text) (m : length text < at + 64) where
+  abbrev rest : List ℕ
+  rest = take (length text - at) (drop at text)
 
-pub loop-j-init : goal.loop-j-init
-loop-j-init c = (search rules, search rules, search rules, (λ k l. absurd (omega arith)), λ k l. blank k)
-
-pub loop-j-preserved : goal.loop-j-preserved
-loop-j-preserved c = let i = c.loop-j.invariant in
-    let a = c.args in (
-      search rules,
-      i.1,
-      simp length-set i.2,
-      fill_next (λ k. get_or a.text.now (a.at + k) 0) c.loop-j.j c.loop-j.p i.3 (omega arith) refl,
-      λ k l. get_or-set_other c.loop-j.p c.loop-j.j k _ 0 (λ e. omega arith) ∙ i.4 k (omega arith),
-    )
+  laid : (j : ℕ) → get_or (rest ++ drop (length rest) zeros) j 0 ≡ get_or text (at + j) 0
+  laid j = go (dec_lt j (length text - at))
+    where
+      go : Dec (j < length text - at) → get_or (rest ++ drop (length rest) zeros) j 0 ≡ get_or text (at + j) 0
+      go (yes p) =
+          let a : get_or (rest ++ drop (length rest) zeros) j 0 ≡ get_or rest j 0 = grind (arith, places) in
+          let b : get_or rest j 0 ≡ get_or text (at + j) 0 = grind (arith, places) in a ∙ b
+      go (no n) =
+          let long : length rest ≡ length text - at = grind (arith, places) in
+          let a : get_or (rest ++ drop (length rest) zeros) j 0 ≡ get_or (drop (length rest) zeros) (j - length rest) 0 = get_or-append_right rest (drop (length rest) zeros) j 0 (omega (arith, long, lt_of_not-le n)) in
+          let b : get_or (drop (length rest) zeros) (j - length rest) 0 ≡ 0 = get_or-drop (length rest) zeros (j - length rest) 0 ∙ blank (length rest + (j - length rest)) in
+          let over : length text ≤ at + j = omega (arith, lt_of_not-le n) in
+          a ∙ b ∙ sym (get_or-eq_default text 0 over)
 
 pub returns : goal.returns
-returns c = λ k.
-    let i = c.loop-j.invariant in
-    let a = c.args in
-    past a.text.now a.at c.loop-j.p c.loop-j.j k (omega arith) i.3 i.4
+returns c = λ j. ap (λ (p : List ℕ). get_or (p ++ drop (length (rest c.args.text.now c.args.at c.requires.0 c.requires.1)) zeros) j 0) c.copy_from_slice.ensures.after ∙ laid c.args.text.now c.args.at c.requires.0 c.requires.1 j

@@ -1,45 +1,47 @@
--- `run_odd` meets its contract: each backslash that was passed turns the answer over.
-use Rattle.std.proofs.Common.{◌≡◌, ℕ, suc, ◌-◌, ◌<◌, Bool, false, not, ◌&&◌, List, get_or, sym, ap, ◌∙◌, arith, rules, eq-eqb, ne_eqb}
-use Rattle.rules.specs.Word.{xor, odd}
-use Rattle.rules.specs.Bytes.{backslash, is, has}
-use Rattle.rules.specs.Bits.{run_before, escaped}
-use Rattle.rules.proofs.Booleans.{bool1, bool2}
-use Rattle.rules.proofs.RuleLaws.{escaped_suc}
+-- `run_odd` meets its contract: the backslashes that end the bytes before `at` are those taken from behind.
+use Rattle.std.proofs.Common.{◌≡◌, ℕ, zero, suc, ◌≤◌, Bool, true, false, cond, ◌+◌, ◌%◌, List, [], ◌∷◌, length, get_or, take, reverse, eqb, refl, ap, ◌∙◌, arith, rules, tests, not}
+use Rattle.std.proofs.Math.Seq.{take-suc}
+use Rattle.std.proofs.lemmas.List.{reverse-append}
+use Rattle.std.proofs.lemmas.List.Folds.{length-prefix_len}
+use Rattle.std.proofs.lemmas.Iterator.Adapters.{YieldsList-from_rev_slice}
+use Rattle.std.proofs.lemmas.Iterator.Search.{YieldsList-from_take_while}
+use Rattle.std.proofs.lemmas.Iterator.Consumers.{count_from_yields_List}
+use Rattle.std.proofs.lemmas.Bool.Decides.{nat_tests}
+use Rattle.std.specs.List.{prefix_len}
+use Rattle.std.specs.Iterator.Adapters.{take_while_source}
+use Rattle.rules.specs.Word.{odd}
+use Rattle.rules.specs.Bytes.{is, has}
+use Rattle.rules.specs.Bits.{grow, run_before, escaped}
 use Rattle.blocks.proofs.marking.run_odd.Goals as goal
 
-escaped_prev : (text : List ℕ) (i : ℕ) → 0 < i → escaped text i ≡ has backslash text (i - 1) && not (escaped text (i - 1))
-escaped_prev text i h = ap (escaped text) e ∙ escaped_suc text (i - 1)
-  where
-    e : i ≡ suc (i - 1)
-    e = omega arith
+abbrev slash : ℕ → Bool
+slash b = eqb b 92
 
-xor_none : (b : Bool) → xor b false ≡ b
-xor_none = bool1 _ _ tt
+grow_or_not : (b : Bool) {m n : ℕ} → m ≡ n → cond b (1 + m) 0 ≡ grow b n
+grow_or_not true e = omega (arith, e)
+grow_or_not false e = refl
 
-xor_not : (a b : Bool) → xor a (not b) ≡ xor (not a) b
-xor_not = bool2 _ _ tt
+run_from_behind : (text : List ℕ) (i : ℕ) → i ≤ length text → prefix_len slash (reverse (take i text)) ≡ run_before text i
+unfolding run_before has is
+run_from_behind text zero h = refl
+run_from_behind text (suc i) h =
+    let ih = run_from_behind text i (omega arith) in
+    let e : reverse (take (suc i) text) ≡ get_or text i 0 ∷ reverse (take i text) = ap reverse (take-suc text i 0 h) ∙ reverse-append (take i text) (get_or text i 0 ∷ []) in
+    rw e (grow_or_not (slash (get_or text i 0)) ih)
 
-module _ (text : List ℕ) (o : Bool) {e : Bool} where
-  start : e ≡ xor o (escaped text 0) → o ≡ e
-  unfolding escaped run_before odd
-  start h = sym (h ∙ xor_none o)
-
-  module _ (i : ℕ) (p : 0 < i) (h : e ≡ xor o (escaped text i)) where
-    stop : (get_or text (i - 1) 0 ≡ 92 → ⊥) → o ≡ e
-    unfolding has is
-    stop n = sym (h ∙ ap (xor o) (escaped_prev text i p ∙ ap (λ (b : Bool). b && not (escaped text (i - 1))) (ne_eqb (get_or text (i - 1) 0) 92 n)) ∙ xor_none o)
-
-    on : get_or text (i - 1) 0 ≡ 92 → e ≡ xor (not o) (escaped text (i - 1))
-    unfolding has is
-    on q = h ∙ ap (xor o) (escaped_prev text i p ∙ ap (λ (b : Bool). b && not (escaped text (i - 1))) (eq-eqb (get_or text (i - 1) 0) 92 q)) ∙ xor_not o (escaped text (i - 1))
-
-pub returns-then-text-i-ne92 : goal.returns-then-text-i-ne92
-returns-then-text-i-ne92 c = stop c.args.text.now c.loop-i.odd c.loop-i.i c.loop-i-test.true c.loop-i.invariant.1 c.if-text-i-ne92.true
-
-pub loop-i-preserved : goal.loop-i-preserved
-loop-i-preserved c = (search rules, on c.args.text.now c.loop-i.odd c.loop-i.i c.loop-i-test.true c.loop-i.invariant.1 c.if-text-i-ne92.false)
+odd_parity : (n : ℕ) → eqb (n % 2) 1 ≡ odd n
+unfolding odd
+odd_parity zero = refl
+odd_parity (suc n) =
+    let ih = odd_parity n in
+    let step : eqb (suc n % 2) 1 ≡ not (eqb (n % 2) 1) = grind (arith, nat_tests) in step ∙ ap not ih
 
 pub returns : goal.returns
-returns c = let text = c.args.text.now in
-    let none : c.loop-i.i ≡ 0 = omega arith in
-    start text c.loop-i.odd (c.loop-i.invariant.1 ∙ ap (λ (i : ℕ). xor c.loop-i.odd (escaped text i)) none)
+unfolding escaped
+returns c =
+    let before = take c.args.at c.args.text.now in
+    let behind = YieldsList-from_rev_slice {s = take_while_source c.take_while.result} before (rw (c.take_while.ensures.source, c.rev.ensures.source) c.iter.ensures.rest) in
+    let e =
+    count_from_yields_List c.take_while.result c.count-run.result c.count-run.ensures.ran
+    (YieldsList-from_take_while _ slash behind c.take_while.ensures.closure c.take_while.ensures.done (λ x b q k. search (rules, tests))) in
+    odd_parity c.count-run.result ∙ ap odd (e ∙ length-prefix_len slash (reverse before) ∙ run_from_behind c.args.text.now c.args.at c.requires)

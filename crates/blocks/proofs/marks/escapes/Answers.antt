@@ -10,4 +10,4 @@ byte_digit true = refl
 byte_digit false = refl
 
 pub returns : goal.returns
-returns c p e = escapes_meets c.args.carry p e (byte_digit c.args.carry) c.wrapping_add_u64.ensures.value c.wrapping_add_u64-sum.ensures.value
+returns c p e = escapes_meets c.args.carry p e (byte_digit c.args.carry) refl refl

@@ -1,10 +1,7 @@
 -- `live` meets its contract.
-use Rattle.std.proofs.Common.{ℕ, ◌-◌, sym, ap, ◌∙◌, arith, pow_pos}
+use Rattle.std.proofs.Common.{ℕ, ◌-◌, sym, ap, ◌∙◌, arith}
 use Rattle.rules.proofs.WordLaws.{one_shl, word_below, word_full}
 use Rattle.blocks.proofs.marks.live.Goals as goal
-
-pub overflow_sub-result : goal.overflow_sub-result
-overflow_sub-result c = omega (arith, one_shl 64 c.args.left c.if-left-lt64.true, pow_pos c.args.left)
 
 pub returns-then-left-lt64 : goal.returns-then-left-lt64
 returns-then-left-lt64 c = let k = c.args.left in

@@ -1,17 +1,13 @@
 -- `slot` meets its contract.
-use Rattle.std.proofs.Common.{◌≡◌, ◌-◌, arith, le-leb}
+use Rattle.std.proofs.Common.{le-leb}
 use borrow.Author.Tests.{lt-leb}
 use Rattle.blocks.specs.Spreading.{slot_of}
 use Rattle.blocks.proofs.spread.slot.Goals as goal
 
-pub returns-then-up-down : goal.returns-then-up-down
+pub returns-then-depth-le16-clause-value : goal.returns-then-depth-le16-clause-value
 unfolding slot_of
-returns-then-up-down c = let z : c.args.up - c.args.down ≡ 0 = omega arith in rw z
+returns-then-depth-le16-clause-value c = rw (← c.saturating_sub-depth.ensures) (rw (le-leb c.saturating_sub-depth.result 16 c.if-depth-le16.true))
 
-pub returns-then-depth-gt16 : goal.returns-then-depth-gt16
+pub returns-else-depth-le16-clause-value : goal.returns-else-depth-le16-clause-value
 unfolding slot_of
-returns-then-depth-gt16 c = rw (lt-leb (c.args.up - c.args.down) 16 c.if-depth-gt16.true)
-
-pub returns : goal.returns
-unfolding slot_of
-returns c = rw (le-leb (c.args.up - c.args.down) 16 c.if-depth-gt16.false)
+returns-else-depth-le16-clause-value c = rw (← c.saturating_sub-depth.ensures) (rw (lt-leb c.saturating_sub-depth.result 16 c.if-depth-le16.false))

@@ -1,5 +1,5 @@
 -- `spread_word` meets its contract: the places before `at` are in their slots, and the counts are those at `at`.
-use Rattle.std.proofs.Common.{◌≡◌, ℕ, ◌+◌, ◌-◌, ◌≤◌, Bool, ltb, List, length}
+use Rattle.std.proofs.Common.{◌≡◌, ℕ, ◌+◌, ◌≤◌, Bool, ltb, List, length}
 use lib.Bits.{bit_or}
 use Rattle.rules.specs.Word.{count, word}
 use Rattle.rules.proofs.BitWalk.{Standing}
@@ -15,8 +15,5 @@ pub record Inv (opens closes up down : ℕ) (slots : List ℕ) (u d done at left
   pub downs : d ≤ down + at
   pub so_far : (o c : ℕ → Bool) (i s : ℕ) → Brackets o c i opens closes → up ≡ s + count o i → down ≡ count c i → (u ≡ s + count o (i + at)) × (d ≡ count c (i + at)) × Slots s o c i at slots
 
-abbrev pub invariant-loop-left : goal.invariant-loop-left
-invariant-loop-left l = Inv l.opens l.closes l.up l.down l.slots l.u l.d l.done l.at l.left
-
-abbrev pub decreases-loop-left : goal.decreases-loop-left
-decreases-loop-left l = 64 - l.at
+abbrev pub invariant-loop-place : goal.invariant-loop-place
+invariant-loop-place l = Inv l.opens l.closes l.initial.up l.initial.down l.slots l.up l.down l.done l.place-iterator.at l.place-iterator.left

@@ -114,38 +114,23 @@ pub loop-w-init : goal.loop-w-init
 loop-w-init c = record {
   low = omega arith;
   high = omega arith;
-  wide = c.width_of-width.ensures;
-  swung = swing_start _ _ _ _ (omega arith);
-  written = write_none _ _ _ _ _ _ (lent_long c.requires c.width_of-width.ensures) (flip_from c.args.from);
+  wide = c.new-shape.ensures.wide;
+  swung = swing_start _ _ _ _ c.default-swing.ensures (omega arith);
+  written = write_none _ _ _ _ _ _ (lent_long c.requires c.new-shape.ensures.wide) (flip_from c.args.span.from);
 }
-
-pub overflow_mul-at : goal.overflow_mul-at
-overflow_mul-at c = omega (arith, here c.requires c.loop-w.invariant c.loop-w-test.true, c.requires.small)
 
 pub block-b-requires : goal.block-b-requires
 block-b-requires c = omega (arith, here c.requires c.loop-w.invariant c.loop-w-test.true)
 
-pub get_word-requires : goal.get_word-requires
-get_word-requires c = record { in_map = one c.requires c.loop-w.invariant c.loop-w-test.true; words_len = c.loop-w.invariant.written.long }
-
-pub overflow_sub-n : goal.overflow_sub-n
-overflow_sub-n c = omega (arith, here c.requires c.loop-w.invariant c.loop-w-test.true)
-
-pub put_word-requires : goal.put_word-requires
-put_word-requires c = record { in_map = one c.requires c.loop-w.invariant c.loop-w-test.true; words_len = c.loop-w.invariant.written.long }
+pub overflow_sub-text : goal.overflow_sub-text
+overflow_sub-text c = omega (arith, here c.requires c.loop-w.invariant c.loop-w-test.true)
 
 pub brackets-swing-requires : goal.brackets-swing-requires
 brackets-swing-requires c = small c.requires c.loop-w.invariant c.loop-w-test.true
 
-pub overflow_add-w : goal.overflow_add-w
-overflow_add-w c = omega (arith, c.ranges)
-
 pub loop-w-preserved : goal.loop-w-preserved
-loop-w-preserved c = turn c.requires c.loop-w.invariant c.loop-w-test.true c.get_word.ensures c.get_word.type_inv c.live.ensures c.put_word.ensures
+loop-w-preserved c = turn c.requires c.loop-w.invariant c.loop-w-test.true (rw c.new-shape.ensures.levels_kept at c.word.ensures) c.word.type_inv c.live.ensures (rw c.new-shape.ensures.levels_kept at c.put.ensures)
     (c.block-b.ensures c.table-t.ensures) c.brackets-swing.ensures
-
-pub shape_of-words : goal.shape_of-words
-shape_of-words c = c.loop-w.invariant.written.long ∙ sym (lent_long c.requires c.loop-w.invariant.wide)
 
 pub returns : goal.returns
 returns c = let done = finish c.requires c.loop-w.invariant c.loop-w-test.false in record { value = done.0; words_after = done.1 }

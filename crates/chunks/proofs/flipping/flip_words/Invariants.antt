@@ -19,7 +19,4 @@ pub record Inv (text words₀ : List ℕ) (levels from to width : ℕ) (words : 
   pub written : Cells levels width words (over (marks_till 0 w) from (flip_word words₀ levels (length text)) (cell words₀ levels width))
 
 abbrev pub invariant-loop-w : goal.invariant-loop-w
-invariant-loop-w l = Inv l.text l.initial.words l.levels l.from l.to l.width l.words l.swing l.w
-
-abbrev pub decreases-loop-w : goal.decreases-loop-w
-decreases-loop-w l = l.to - l.w
+invariant-loop-w l = Inv l.text l.initial.words l.levels l.fn.span.from l.fn.span.to l.shape.width l.words l.swing l.w

@@ -108,43 +108,28 @@ levels_from w (commas k) = omega arith
 
 pub loop-w-init : goal.loop-w-init
 unfolding count opens_from closes_from
-loop-w-init c = let none : 64 * (c.args.from - c.args.from) ≡ 0 = omega arith in
+loop-w-init c = let none : 64 * (c.args.span.from - c.args.span.from) ≡ 0 = omega arith in
     record {
       low = omega arith;
       high = omega arith;
-      wide = c.width_of-width.ensures;
+      wide = c.new-shape.ensures.wide;
       ups = rw none (omega arith);
       downs = rw none;
-      written = write_none _ _ _ _ _ _ (lent_long c.requires c.width_of-width.ensures) (levels_from c.args.from);
+      written = write_none _ _ _ _ _ _ (lent_long c.requires c.new-shape.ensures.wide) (levels_from c.args.span.from);
     }
-
-pub overflow_mul-w : goal.overflow_mul-w
-overflow_mul-w c = omega (arith, here c.requires c.loop-w.invariant c.loop-w-test.true, c.requires.small)
 
 pub block-b-requires : goal.block-b-requires
 block-b-requires c = omega (arith, here c.requires c.loop-w.invariant c.loop-w-test.true)
 
-pub get_word-mask-requires : goal.get_word-mask-requires
-get_word-mask-requires c = record { in_map = one c.requires c.loop-w.invariant c.loop-w-test.true; words_len = c.loop-w.invariant.written.long }
-
 pub spread_word-s-requires : goal.spread_word-s-requires
 spread_word-s-requires c = shallow c.requires c.loop-w.invariant c.loop-w-test.true c.ranges.start.fits
 
-pub store-requires : goal.store-requires
-store-requires c = (let r = one c.requires c.loop-w.invariant c.loop-w-test.true in (r.few, r.narrow, r.inside, c.loop-w.invariant.written.long))
-
-pub overflow_add-w : goal.overflow_add-w
-overflow_add-w c = omega (arith, c.ranges)
-
 pub loop-w-preserved : goal.loop-w-preserved
-loop-w-preserved c = turn c.requires c.loop-w.invariant c.loop-w-test.true c.get_word-mask.ensures c.get_word-mask.type_inv (c.block-b.ensures c.table-t.ensures) c.spread_word-s.ensures c.store.ensures
-
-pub shape_of-words : goal.shape_of-words
-shape_of-words c = c.loop-w.invariant.written.long ∙ sym (lent_long c.requires c.loop-w.invariant.wide)
+loop-w-preserved c = turn c.requires c.loop-w.invariant c.loop-w-test.true (rw c.new-shape.ensures.levels_kept at c.word-mask.ensures) c.word-mask.type_inv (c.block-b.ensures c.table-t.ensures) c.spread_word-s.ensures (rw c.new-shape.ensures.levels_kept at c.store.ensures)
 
 pub returns : goal.returns
 unfolding level_words
 returns c = let a = c.args in
     let i = c.loop-w.invariant in
-    write_end _ _ _ (levels_till c.loop-w.w) (levels_till a.to) _ _ _ i.written (limits a.from a.to c.loop-w.w c.loop-w-test.false i.high)
-    ∙ ap (λ (x : ℕ). rewritten a.levels x (levels_till a.to) a.from (level_word a.text.now a.words.now a.levels a.from a.start) a.words.now) i.wide
+    write_end _ _ _ (levels_till c.loop-w.w) (levels_till a.span.to) _ _ _ i.written (limits a.span.from a.span.to c.loop-w.w c.loop-w-test.false i.high)
+    ∙ ap (λ (x : ℕ). rewritten a.levels x (levels_till a.span.to) a.span.from (level_word a.text.now a.words.now a.levels a.span.from a.start) a.words.now) i.wide

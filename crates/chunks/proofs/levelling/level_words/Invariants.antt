@@ -30,7 +30,4 @@ pub record Inv (text words₀ : List ℕ) (levels from to width start : ℕ) (wo
   pub written : Cells levels width words (over (levels_till w) from (level_word text words₀ levels from start) (cell words₀ levels width))
 
 abbrev pub invariant-loop-w : goal.invariant-loop-w
-invariant-loop-w l = Inv l.text l.initial.words l.levels l.from l.to l.width l.start l.words l.up l.down l.w
-
-abbrev pub decreases-loop-w : goal.decreases-loop-w
-decreases-loop-w l = l.to - l.w
+invariant-loop-w l = Inv l.text l.initial.words l.levels l.fn.span.from l.fn.span.to l.shape.width l.start l.words l.up l.down l.w

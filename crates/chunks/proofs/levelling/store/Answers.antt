@@ -97,34 +97,25 @@ loop-k-init c = let a = c.args in
     record {
       high = omega arith;
       long = refl;
-      written = λ from f old h given p. relimit a.levels a.width from (levels_till a.w) (upto a.w 0 0) f old _ (none_yet a.levels a.w) p;
+      written = λ from f old h given p. relimit a.shape.levels a.shape.width from (levels_till a.w) (upto a.w 0 0) f old _ (none_yet a.shape.levels a.w) p;
     }
-
-pub put_word-requires : goal.put_word-requires
-put_word-requires c = record { in_map = record { few = c.requires.0; narrow = c.requires.1; has = (omega arith, omega arith); inside = c.requires.2 }; words_len = c.loop-k.invariant.long ∙ c.requires.3 }
-
-pub put_word-requires-in-loop-k : goal.put_word-requires-in-loop-k
-put_word-requires-in-loop-k c = record { in_map = record { few = c.requires.0; narrow = c.requires.1; has = (omega arith, omega arith); inside = c.requires.2 }; words_len = c.put_word.auto.words ∙ c.loop-k.invariant.long ∙ c.requires.3 }
 
 pub loop-k-preserved : goal.loop-k-preserved
 loop-k-preserved c = let a = c.args in
     let inv = c.loop-k.invariant in
     record {
       high = omega arith;
-      long = c.put_word-in-loop-k.auto.words ∙ c.put_word.auto.words ∙ inv.long;
+      long = c.put-in-loop-k.auto.words ∙ c.put.auto.words ∙ inv.long;
       written = λ from f old h given p.
-          turn a.levels a.width a.w from f old a.slots.now a.colon a.comma c.loop-k.k c.loop-k.words _ _ (omega arith) c.requires.2 h given (inv.written from f old h given p) c.put_word.ensures c.put_word-in-loop-k.ensures;
+          turn a.shape.levels a.shape.width a.w from f old a.slots.now a.colon a.comma c.loop-k.k c.loop-k.words _ _ (omega arith) c.requires.0 h given (inv.written from f old h given p) c.put.ensures c.put-in-loop-k.ensures;
     }
-
-pub shape_of-words : goal.shape_of-words
-shape_of-words c = c.loop-k.invariant.long
 
 pub returns : goal.returns
 returns c = let a = c.args in
     let i = c.loop-k.invariant in
-    let end : c.loop-k.k ≡ a.levels = omega (arith, i.high) in
+    let end : c.loop-k.k ≡ a.shape.levels = omega (arith, i.high) in
     record {
       stores = λ from f old h given p.
-          relimit a.levels a.width from (upto a.w a.levels a.levels) (levels_till (suc a.w)) f old _ (all_done a.levels a.w)
-          (subst (λ (k : ℕ). Cells a.levels a.width c.loop-k.words (over (upto a.w k k) from f old)) end (i.written from f old h given p));
+          relimit a.shape.levels a.shape.width from (upto a.w a.shape.levels a.shape.levels) (levels_till (suc a.w)) f old _ (all_done a.shape.levels a.w)
+          (subst (λ (k : ℕ). Cells a.shape.levels a.shape.width c.loop-k.words (over (upto a.w k k) from f old)) end (i.written from f old h given p));
     }

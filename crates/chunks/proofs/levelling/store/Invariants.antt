@@ -1,7 +1,7 @@
 -- `store` meets its contract: of word w, the colons and commas of the first k levels are written.
 use mathlib.Core.Path.{◌≡◌}
 use mathlib.Core.List.{List}
-use Prim.Native.Nat.{ℕ, zero, suc, ◌-◌, ◌≤◌}
+use Prim.Native.Nat.{ℕ, zero, suc, ◌≤◌}
 use lib.ListN.{length}
 use lib.Dec.{ltb}
 use Rattle.rules.specs.Word.{pick}
@@ -26,7 +26,4 @@ pub record Inv (words₀ : List ℕ) (levels width w : ℕ) (slots : List ℕ) (
   pub written : (from : ℕ) (f old : Bitmap → ℕ → ℕ) → from ≤ w → LevelsAt levels w slots colon comma f → Cells levels width words₀ (over (levels_till w) from f old) → Cells levels width words (over (upto w k k) from f old)
 
 abbrev pub invariant-loop-k : goal.invariant-loop-k
-invariant-loop-k l = Inv l.initial.words l.levels l.width l.w l.slots l.colon l.comma l.words l.k
-
-abbrev pub decreases-loop-k : goal.decreases-loop-k
-decreases-loop-k l = l.levels - l.k
+invariant-loop-k l = Inv l.initial.words l.shape.levels l.shape.width l.w l.slots l.colon l.comma l.words l.k

@@ -10,7 +10,7 @@ use lib.ListN.{length, set}
 use Rattle.rules.specs.Layout.{quotes, mask, width_of, Has, address, cell}
 use Rattle.rules.proofs.LayoutLaws.{Cells}
 use Rattle.layout.specs.declared.Map.{Map}
-use Rattle.layout.specs.declared.Map.TheVariants.{Quotes, Mask}
+use Rattle.layout.specs.declared.Map.TheVariants.{Quotes}
 use Rattle.layout.specs.Maps.{mapped, InMap}
 use Rattle.blocks.specs.declared.swing.Swing.{Swing}
 use Rattle.blocks.specs.Guessing.{guessed, guess_bit}
@@ -69,72 +69,57 @@ module _ {text words₀ : List ℕ} {levels from to width : ℕ} {guess : Bool} 
         }
 
 -- nothing to scan
-none : (text words : List ℕ) (levels from to : ℕ) (guess : Bool) → Lent text words levels to → to ≤ from
-    → (◌≡◌ {A = Swept} (record { inside = guess; swing = record { up = 0; down = 0; dip = 0; peak = 0 } }) (swept_of text from to guess)) × (words ≡ scan_words text levels from to guess words)
+none : (text words : List ℕ) (levels from to : ℕ) (guess : Bool) {swing : Swing} → (swing.up ≡ 0) × ((swing.down ≡ 0) × ((swing.dip ≡ 0) × (swing.peak ≡ 0))) → Lent text words levels to → to ≤ from
+    → (◌≡◌ {A = Swept} (record { inside = guess; swing = swing }) (swept_of text from to guess)) × (words ≡ scan_words text levels from to guess words)
 unfolding swept_of scan_words
-none text words levels from to guess lent h =
+none text words levels from to guess e lent h =
     let zero≡ : 64 * (to - from) ≡ 0 = omega arith in
     let same : 64 * from ≡ 64 * from + 64 * (to - from) = omega arith in (
       λ i. record {
         inside = (sym (guessed_self guess (64 * from) text) ∙ ap (guessed guess (64 * from) text) same) i;
-        swing = swing_start (guess_bit guess (64 * from) text) text (64 * from) (64 * (to - from)) zero≡ i;
+        swing = swing_start (guess_bit guess (64 * from) text) text (64 * from) (64 * (to - from)) e zero≡ i;
       },
       write_all levels (width_of (length text)) from (marks_till to to) (scan_word text guess from) words words
           (write_none levels (width_of (length text)) from (marks_till to to) (scan_word text guess from) words (lent_long lent refl) (λ b. le_trans (marks_from to b) h)),
     )
 
-pub returns-then-to-from : goal.returns-then-to-from
-returns-then-to-from c = let none_done = none _ _ c.args.levels _ _ c.args.guess c.requires c.if-to-from.true in record { value = none_done.0; words_after = none_done.1 }
-
-pub overflow_mul-from : goal.overflow_mul-from
-overflow_mul-from c = omega (arith, lent_place c.requires c.width_of-width.ensures c.args.from c.if-to-from.false, c.well_formed)
+pub returns-then-span : goal.returns-then-span
+returns-then-span c = let none_done = none _ _ c.args.levels _ _ c.args.guess c.default-swing.ensures c.requires c.if-span.true in record { value = none_done.0; words_after = none_done.1 }
 
 pub run_odd-carry-requires : goal.run_odd-carry-requires
-run_odd-carry-requires c = omega (arith, lent_place c.requires c.width_of-width.ensures c.args.from c.if-to-from.false)
+run_odd-carry-requires c = omega (arith, lent_place c.requires c.new-shape.ensures.wide c.args.span.from c.if-span.false)
 
 pub loop-w-init : goal.loop-w-init
-loop-w-init c = let wide = c.width_of-width.ensures in
+loop-w-init c = let wide = c.new-shape.ensures.wide in
     record {
       low = omega arith;
-      high = omega (arith, c.if-to-from.false);
+      high = omega (arith, c.if-span.false);
       wide = wide;
       carried = c.run_odd-carry.ensures;
       state = sym (guessed_self _ _ _);
-      swung = swing_start _ _ _ _ (omega arith);
-      written = write_none _ _ _ _ _ _ (lent_long c.requires wide) (marks_from c.args.from);
+      swung = swing_start _ _ _ _ c.default-swing.ensures (omega arith);
+      written = write_none _ _ _ _ _ _ (lent_long c.requires wide) (marks_from c.args.span.from);
     }
 
 pub mark_word-m-requires : goal.mark_word-m-requires
 mark_word-m-requires c = record { table_of = c.table-t.ensures; w_in_bounds = (omega (arith, lent_place c.requires c.loop-w.invariant.wide c.loop-w.w c.loop-w-test.true), c.loop-w.invariant.carried) }
 
-pub put_word-requires : goal.put_word-requires
-put_word-requires c = record { in_map = here c.requires c.loop-w.invariant c.loop-w-test.true Quotes tt; words_len = c.loop-w.invariant.written.long }
-
-pub put_word-requires-in-loop-w : goal.put_word-requires-in-loop-w
-put_word-requires-in-loop-w c = record { in_map = here c.requires c.loop-w.invariant c.loop-w-test.true Mask tt; words_len = c.put_word.auto.words ∙ c.loop-w.invariant.written.long }
-
 pub brackets-swing-requires : goal.brackets-swing-requires
 brackets-swing-requires c = small c.requires c.loop-w.invariant c.loop-w-test.true
 
-pub overflow_add-w : goal.overflow_add-w
-overflow_add-w c = omega (arith, c.ranges)
-
 pub loop-w-preserved : goal.loop-w-preserved
-loop-w-preserved c = turn c.requires c.loop-w.invariant c.loop-w-test.true c.mark_word-m.ensures c.put_word.ensures c.put_word-in-loop-w.ensures c.brackets-swing.ensures
-
-pub shape_of-words : goal.shape_of-words
-shape_of-words c = c.loop-w.invariant.written.long ∙ sym (lent_long c.requires c.loop-w.invariant.wide)
+loop-w-preserved c = turn c.requires c.loop-w.invariant c.loop-w-test.true c.mark_word-m.ensures (rw c.new-shape.ensures.levels_kept at c.put.ensures) (rw c.new-shape.ensures.levels_kept at c.put-in-loop-w.ensures) c.brackets-swing.ensures
 
 pub returns : goal.returns
 unfolding swept_of scan_words
 returns c = let a = c.args in
     let i = c.loop-w.invariant in
-    let end : c.loop-w.w ≡ a.to = omega (arith, i.high) in
-    let place : 64 * c.loop-w.w ≡ 64 * a.from + 64 * (a.to - a.from) = omega (arith, i.low) in
+    let end : c.loop-w.w ≡ a.span.to = omega (arith, i.high) in
+    let place : 64 * c.loop-w.w ≡ 64 * a.span.from + 64 * (a.span.to - a.span.from) = omega (arith, i.low) in
     record {
       value = λ j. record {
-        inside = (i.state ∙ ap (guessed a.guess (64 * a.from) a.text.now) place) j;
-        swing = (i.swung ∙ ap (λ (w : ℕ). swing_by (guess_bit a.guess (64 * a.from) a.text.now) a.text.now (64 * a.from) (64 * (w - a.from))) end) j;
+        inside = (i.state ∙ ap (guessed a.guess (64 * a.span.from) a.text.now) place) j;
+        swing = (i.swung ∙ ap (λ (w : ℕ). swing_by (guess_bit a.guess (64 * a.span.from) a.text.now) a.text.now (64 * a.span.from) (64 * (w - a.span.from))) end) j;
       };
-      words_after = write_all _ _ _ _ _ _ _ i.written ∙ ap₂ (λ (v w : ℕ). rewritten a.levels v (marks_till w w) a.from (scan_word a.text.now a.guess a.from) a.words.now) i.wide end;
+      words_after = write_all _ _ _ _ _ _ _ i.written ∙ ap₂ (λ (v w : ℕ). rewritten a.levels v (marks_till w w) a.span.from (scan_word a.text.now a.guess a.span.from) a.words.now) i.wide end;
     }

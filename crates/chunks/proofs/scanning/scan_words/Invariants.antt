@@ -23,7 +23,4 @@ pub record Inv (text words₀ : List ℕ) (levels from to width : ℕ) (guess : 
   pub written : Cells levels width words (over (marks_till w w) from (scan_word text guess from) (cell words₀ levels width))
 
 abbrev pub invariant-loop-w : goal.invariant-loop-w
-invariant-loop-w l = Inv l.text l.initial.words l.levels l.from l.to l.width l.guess l.words l.inside l.swing l.carry l.w
-
-abbrev pub decreases-loop-w : goal.decreases-loop-w
-decreases-loop-w l = l.to - l.w
+invariant-loop-w l = Inv l.text l.initial.words l.levels l.fn.span.from l.fn.span.to l.shape.width l.guess l.words l.inside l.swing l.carry l.w

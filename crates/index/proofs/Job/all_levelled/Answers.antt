@@ -1,29 +1,28 @@
--- `Job::all_levelled` meets its contract: every chunk passed is levelled.
-use borrow.Author.Rules.{rules}
-use borrow.Author.Tests.{not-true, not-false}
-use mathlib.Core.Path.{◌≡◌, sym}
-use native.Mathlib.Omega.{arith}
-use Rattle.index.specs.Checks.{chunks_of}
-use Rattle.index.specs.Closing.{all_levelled}
+-- `Job::all_levelled` meets its contract.
+use Rattle.std.proofs.Common.{◌≡◌, ℕ, zero, suc, ◌≤◌, ◌&&◌, length, take, refl, sym, ap, ◌∙◌, arith, add-one, rules, tests}
+use Rattle.std.specs.List.{list_all}
+use Rattle.std.specs.Iterator.Adapters.{take_source}
+use Rattle.std.proofs.lemmas.List.Folds.{list_all_more}
+use Rattle.std.proofs.lemmas.Iterator.{YieldsList-from_slice, YieldsList-from_take}
+use Rattle.std.proofs.lemmas.Iterator.Search.{all_from_yields_List}
+use Rattle.index.specs.declared.Chunk.{Chunk}
+use Rattle.index.specs.declared.Job.{Job}
+use Rattle.index.specs.Checks.{chunk_at, fresh}
+use Rattle.index.specs.Closing.{every, all_levelled}
 use Rattle.index.proofs.CheckLaws.{chunks_few}
-use Rattle.index.proofs.CloseLaws.{every_none, every_more, every_not}
-use Rattle.index.proofs.Job.all_levelled.Invariants.{levelled}
 use Rattle.index.proofs.Job.all_levelled.Goals as goal
 
-pub loop-k-init : goal.loop-k-init
-loop-k-init c = (search rules, c.chunks-m.ensures, omega (arith, chunks_few c.args.self, c.chunks-m.ensures), every_none (levelled c.args.self))
-
-pub returns-then-not-c : goal.returns-then-not-c
-unfolding all_levelled
-returns-then-not-c c = let l = c.loop-k in let j = c.args.self in
-    sym (every_not (levelled j) (chunks_of j) l.k (omega (arith, c.loop-k-test.true, l.invariant.1)) (not-true _ c.if-not-c.true))
-
-pub loop-k-preserved : goal.loop-k-preserved
-loop-k-preserved c = let l = c.loop-k in let j = c.args.self in
-    (omega arith, l.invariant.1, l.invariant.2, every_more (levelled j) l.k l.invariant.3 (not-false _ c.if-not-c.false))
+all_every : (j : Job) (m : ℕ) → m ≤ length j.chunks → list_all (λ (c : Chunk). c.levelled) (take m j.chunks) ≡ every (λ k. (chunk_at j k).levelled) m
+unfolding every
+all_every j zero h = refl
+all_every j (suc m) h =
+    ap (λ (n : ℕ). list_all (λ (c : Chunk). c.levelled) (take n j.chunks)) (sym (add-one m)) ∙ list_all_more (λ (c : Chunk). c.levelled) j.chunks m (fresh 0) (omega arith)
+    ∙ ap (λ b. b && (chunk_at j m).levelled) (all_every j m (omega arith))
 
 pub returns : goal.returns
 unfolding all_levelled
-returns c = let l = c.loop-k in let j = c.args.self in
-    let e : chunks_of j ≡ l.k = omega (arith, l.invariant.0, l.invariant.1, c.loop-k-test.false) in
-    rw e (sym l.invariant.3)
+returns c =
+    let long : length c.args.self.now.chunks ≡ 64 = search rules in
+    let chunks = YieldsList-from_slice {s = take_source c.take.result} c.args.self.now.chunks (rw c.take.ensures.source c.iter.ensures.rest) in
+    let e = all_from_yields_List (λ (x : Chunk). x.levelled) _ _ c.all.result c.all.ensures.ran (YieldsList-from_take c.chunks.result chunks c.take.ensures.count) (λ x b q k. search (rules, tests)) in
+    e ∙ all_every c.args.self.now c.chunks.result (omega (arith, long, c.chunks.ensures, chunks_few c.args.self.now)) ∙ ap (every _) c.chunks.ensures

@@ -1,20 +1,15 @@
--- `Job::ask` meets its contract: the test picks the case.
-use native.Mathlib.Omega.{arith}
-use borrow.Author.Tests.{le-ltb, lt-ltb}
+-- `Job::ask` meets its contract.
+use Rattle.std.proofs.Common.{◌≡◌, Bool, true, false, Some, None, refl}
+use Rattle.std.specs.Bool.{then_some}
+use Rattle.rules.specs.Word.{pick}
+use Rattle.index.specs.declared.Steps.{Steps}
 use Rattle.index.specs.Checks.{asked}
-use Rattle.index.proofs.CheckLaws.{chunks_few}
 use Rattle.index.proofs.Job.ask.Goals as goal
 
-pub offset_bounds-self-k : goal.offset_bounds-self-k
-offset_bounds-self-k c = omega (arith, chunks_few c.args.self)
+some_or_none : (b : Bool) (s : Steps) → then_some b s ≡ pick b (Some s) None
+some_or_none true s = refl
+some_or_none false s = refl
 
-pub bounds-self-k : goal.bounds-self-k
-bounds-self-k c = omega (arith, chunks_few c.args.self)
-
-pub returns-then-k-m : goal.returns-then-k-m
+pub returns : goal.returns
 unfolding asked
-returns-then-k-m c = rw c.chunks-m.ensures (simp (lt-ltb _ _ (rw c.chunks-m.ensures at c.if-k-m.true)))
-
-pub returns-else-k-m : goal.returns-else-k-m
-unfolding asked
-returns-else-k-m c = rw c.chunks-m.ensures (simp (le-ltb _ _ (rw c.chunks-m.ensures at c.if-k-m.false)))
+returns c = rw (c.then_some.ensures, c.chunks-chunks.ensures, c.chunk-c.ensures) (rw some_or_none)

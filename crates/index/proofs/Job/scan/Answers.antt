@@ -1,26 +1,22 @@
 -- `Job::scan` meets its contract.
-use mathlib.Core.Path.{sym, ap, ap₂, ◌∙◌}
+use Rattle.std.proofs.Common.{sym, ap, ap₂, ◌∙◌}
 use Rattle.index.specs.declared.Step.TheVariants.{Scan}
 use Rattle.index.specs.Checks.{with_chunk}
 use Rattle.index.specs.Scanning.{scanned, scanned_words}
-use Rattle.index.proofs.StepLaws.{fitting, handed, as_refused, as_done}
+use Rattle.index.proofs.StepLaws.{fitting, handed, check_refused, check_passed, as_done}
 use Rattle.index.proofs.Job.scan.Goals as goal
 
-pub returns-in_default : goal.returns-in_default
+pub returns-in-Err : goal.returns-in-Err
 unfolding scanned scanned_words
-returns-in_default c = let e = c.refused-a.ensures in
-    record { hands = ap₂ handed e (as_refused e c.in_default.not-Done _ _); leaves = as_refused e c.in_default.not-Done _ _ }
+returns-in-Err c = let no = check_refused c.in-Err.is c.check.ensures in record { hands = rw no c.refused.ensures; leaves = rw no }
 
 pub scan_chunk-c-requires : goal.scan_chunk-c-requires
-scan_chunk-c-requires c = fitting Scan _ _ _ _ (sym c.refused-a.ensures ∙ c.in-Done.is)
-
-pub with_chunk-requires : goal.with_chunk-requires
-with_chunk-requires c = (fitting Scan _ _ _ _ (sym c.refused-a.ensures ∙ c.in-Done.is)).chunk
+scan_chunk-c-requires c = fitting Scan _ _ _ c.args.k (check_passed c.in_default.not-Err c.check.ensures)
 
 pub returns : goal.returns
 unfolding scanned scanned_words
 returns c = let a = c.args in
-    let done = sym c.refused-a.ensures ∙ c.in-Done.is in
+    let done = check_passed c.in_default.not-Err c.check.ensures in
     record {
       hands = ap₂ handed (sym done) (c.with_chunk.ensures ∙ ap (with_chunk a.self a.k) c.scan_chunk-c.ensures.value ∙ as_done done _ _);
       leaves = c.scan_chunk-c.ensures.words_after ∙ as_done done _ _;

@@ -8,14 +8,15 @@ use Rattle.rules.specs.Word.{xor, odd, count}
 use Rattle.rules.specs.Bits.{quote_bit}
 use Rattle.rules.proofs.Booleans.{bool2}
 use Rattle.index.specs.declared.Kept.{Kept}
-use Rattle.index.specs.declared.checks.Span.{Span}
+use Rattle.index.specs.declared.Chunk.{Chunk}
+use Rattle.chunks.specs.declared.Span.{Span}
 use Rattle.chunks.specs.declared.scanning.Swept.{Swept}
 use Rattle.blocks.specs.Guessing.{guessed}
 use Rattle.blocks.specs.Swinging.{Small}
-use Rattle.index.specs.Checks.{chunk_at}
 use Rattle.index.specs.Depth.{kept_of}
 use Rattle.chunks.specs.Sweeping.{swept_of, scan_words}
 use Rattle.index.specs.Scanning.{odd_in, scan_kept, scan_chunk}
+use Rattle.index.proofs.Differs.{xor_ne}
 use Rattle.index.proofs.StepLaws.{lent_chunk, small_swing}
 use Rattle.index.proofs.Job.scan_chunk.Goals as goal
 
@@ -34,9 +35,6 @@ unfolding scan_kept swept_of
 kept_is text s g {swept} {o} {kept} e eo ek =
     ek ∙ ap₂ kept_of (eo ∙ ap (λ (x : Swept). xor x.inside g) e ∙ parity text s.from s.to g) (ap (λ (x : Swept). x.swing) e)
 
-pub span-s-requires : goal.span-s-requires
-span-s-requires c = (c.requires.short, c.requires.chunk)
-
 pub scan_words-swept-requires : goal.scan_words-swept-requires
 scan_words-swept-requires c = let a = c.args in
     rw c.span-s.ensures (lent_chunk a.self a.text.now a.words.now a.k c.requires)
@@ -52,6 +50,9 @@ pub returns : goal.returns
 unfolding scan_chunk
 returns c = let a = c.args in
     let span = c.span-s.ensures in
-    let d = chunk_at a.self a.k in
-    let kept = kept_is a.text.now c.span-s.result a.inside c.scan_words-swept.ensures.value c.differs-odd.ensures c.kept_of-kept.ensures in
-    record { value = ap (λ (x : Kept). record { cut = d.cut; scanned = true; settled = d.settled; levelled = d.levelled; inside = a.inside; start = d.start; kept = x }) (kept ∙ ap (λ (s : Span). scan_kept a.text.now s a.inside) span); words_after = c.scan_words-swept.ensures.words_after ∙ ap (λ (s : Span). scan_words a.text.now a.self.levels s.from s.to a.inside a.words.now) span }
+    let made : Chunk → Kept → Chunk = λ d x. record { cut = d.cut; scanned = true; settled = d.settled; levelled = d.levelled; inside = a.inside; start = d.start; kept = x } in
+    let kept = kept_is a.text.now c.span-s.result a.inside c.scan_words-swept.ensures.value (xor_ne _ _) c.kept_of-kept.ensures in
+    record {
+      value = ap₂ made c.chunk.ensures (kept ∙ ap (λ (s : Span). scan_kept a.text.now s a.inside) span);
+      words_after = c.scan_words-swept.ensures.words_after ∙ ap (λ (s : Span). scan_words a.text.now a.self.levels s.from s.to a.inside a.words.now) span;
+    }

@@ -1,31 +1,32 @@
 -- `Job::settle` meets its contract: refused, nothing; accepted, by what was found.
+use Rattle.std.specs.Prelude.{Option}
 use mathlib.Core.Path.{◌≡◌, sym, ap, ap₂, ◌∙◌}
 use mathlib.Core.Bool.{Bool}
 use mathlib.Core.List.{List}
 use Prim.Native.Nat.{ℕ}
 use lib.ListN.{length}
+use Rattle.index.specs.declared.Fault.{Fault}
 use Rattle.index.specs.declared.Answer.TheVariants.{Done, Faulty}
 use Rattle.index.specs.declared.State.TheVariants.{Stopped}
 use Rattle.index.specs.declared.Step.TheVariants.{Settle}
 use Rattle.index.specs.declared.Chunk.{Chunk}
 use Rattle.index.specs.declared.Job.{Job}
-use Rattle.index.specs.declared.checks.Span.{Span}
-use Rattle.index.specs.declared.settling.Found.{Found}
+use Rattle.chunks.specs.declared.Span.{Span}
 use Rattle.index.specs.Checks.{with_chunk, with_state, span_of, is_last, refusal}
 use Rattle.index.specs.Stepping.{Fitting}
 use Rattle.chunks.specs.Writing.{Lent}
 use Rattle.index.specs.Settling.{settle_words, settle_chunk, chunk_fault, found_answer, found_job, found_by, settled, settled_words}
-use Rattle.index.proofs.StepLaws.{fitting, lent_chunk, handed, as_refused, as_done}
+use Rattle.index.proofs.StepLaws.{fitting, lent_chunk, handed, check_refused, check_passed, as_done}
 use Rattle.index.proofs.Job.settle.Goals as goal
 
 -- the words left are as long as those lent
-lent_after : (j : Job) (text words after : List ℕ) (k : ℕ) {s : Span} → Fitting j (length text) (length words) k → length after ≡ length words → s ≡ span_of j (length text) k → Lent text after j.levels s.to
+lent_after : (j : Job) (text words after : List ℕ) (k : ℕ) {s : Span} → Fitting j (length text) (length words) → length after ≡ length words → s ≡ span_of j (length text) k → Lent text after j.levels s.to
 lent_after j text words after k {s} f e es =
     let l = lent_chunk j text words k f in
     record { small = l.small; few = l.few; long = e ∙ l.long; within = rw es l.within }
 
 -- an accepted settle, by what it found
-module _ (j : Job) (text words : List ℕ) (k : ℕ) (done : refusal Settle j (length text) (length words) k ≡ Done) {after : List ℕ} {d : Chunk} {s : Span} {last : Bool} {f : Found}
+module _ (j : Job) (text words : List ℕ) (k : ℕ) (done : refusal Settle j (length text) (length words) k ≡ Done) {after : List ℕ} {d : Chunk} {s : Span} {last : Bool} {f : Option Fault}
     (ea : after ≡ settle_words j text words k) (ed : d ≡ settle_chunk j text after k) (es : s ≡ span_of j (length text) k) (el : last ≡ is_last j k)
     (ef : f ≡ chunk_fault d text after j.levels s last) where
   found_is : f ≡ found_by j text (settle_words j text words k) k
@@ -47,45 +48,38 @@ module _ (j : Job) (text words : List ℕ) (k : ℕ) (done : refusal Settle j (l
   unfolding settled_words
   left = ea ∙ as_done done _ _
 
-pub returns-in_default : goal.returns-in_default
+pub returns-in-Err : goal.returns-in-Err
 unfolding settled settled_words
-returns-in_default c = let e = c.refused-a.ensures in
-    record { hands = ap₂ handed (e ∙ as_refused e c.in_default.not-Done _ _) (as_refused e c.in_default.not-Done _ _); leaves = as_refused e c.in_default.not-Done _ _ }
+returns-in-Err c = let no = check_refused c.in-Err.is c.check.ensures in record { hands = rw no c.refused.ensures; leaves = rw no }
 
 pub settle_chunk-c-requires : goal.settle_chunk-c-requires
-settle_chunk-c-requires c = fitting Settle _ _ _ _ (sym c.refused-a.ensures ∙ c.in-Done.is)
+settle_chunk-c-requires c = fitting Settle _ _ _ c.args.k (check_passed c.in_default.not-Err c.check.ensures)
 
 pub span-s-requires : goal.span-s-requires
-span-s-requires c = (let f = fitting Settle _ _ _ _ (sym c.refused-a.ensures ∙ c.in-Done.is) in (f.short, f.chunk))
+span-s-requires c = (fitting Settle _ _ _ c.args.k (check_passed c.in_default.not-Err c.check.ensures)).short
 
-pub is_last-requires : goal.is_last-requires
-is_last-requires c = (fitting Settle _ _ _ _ (sym c.refused-a.ensures ∙ c.in-Done.is)).chunk
+pub chunk_fault-requires : goal.chunk_fault-requires
+chunk_fault-requires c = let a = c.args in
+    lent_after a.self a.text.now a.words.now c.settle_chunk-c.new.words a.k (fitting Settle _ _ _ a.k (check_passed c.in_default.not-Err c.check.ensures)) c.settle_chunk-c.auto.words c.span-s.ensures
 
-pub chunk_fault-found-requires : goal.chunk_fault-found-requires
-chunk_fault-found-requires c = let a = c.args in
-    lent_after a.self a.text.now a.words.now c.settle_chunk-c.new.words a.k (fitting Settle _ _ _ _ (sym c.refused-a.ensures ∙ c.in-Done.is)) c.settle_chunk-c.auto.words c.span-s.ensures
-
-pub with_chunk-job-requires : goal.with_chunk-job-requires
-with_chunk-job-requires c = (fitting Settle _ _ _ _ (sym c.refused-a.ensures ∙ c.in-Done.is)).chunk
-
-pub returns-in-Nothing : goal.returns-in-Nothing
-returns-in-Nothing c = let a = c.args in
-    let done = sym c.refused-a.ensures ∙ c.in-Done.is in
+pub returns-in-None : goal.returns-in-None
+returns-in-None c = let a = c.args in
+    let done = check_passed c.in_default.not-Err c.check.ensures in
     let e = c.settle_chunk-c.ensures in
-    let f = c.in-Nothing.is in
-    let done_is = ended a.self a.text.now a.words.now a.k done e.words_after e.value c.span-s.ensures c.is_last.ensures (sym f ∙ c.chunk_fault-found.ensures) in
+    let found = sym c.in-None.is ∙ c.chunk_fault.ensures in
     record {
-      hands = ap (handed Done) c.with_chunk-job.ensures ∙ done_is;
-      leaves = left a.self a.text.now a.words.now a.k done e.words_after e.value c.span-s.ensures c.is_last.ensures (sym f ∙ c.chunk_fault-found.ensures);
+      hands = ap (handed Done) c.with_chunk-job.ensures ∙ ended a.self a.text.now a.words.now a.k done e.words_after e.value c.span-s.ensures c.is_last.ensures found;
+      leaves = left a.self a.text.now a.words.now a.k done e.words_after e.value c.span-s.ensures c.is_last.ensures found;
     }
 
-pub returns-in-Here : goal.returns-in-Here
-returns-in-Here c = let a = c.args in
-    let done = sym c.refused-a.ensures ∙ c.in-Done.is in
+pub returns-in-Some : goal.returns-in-Some
+returns-in-Some c = let a = c.args in
+    let done = check_passed c.in_default.not-Err c.check.ensures in
     let e = c.settle_chunk-c.ensures in
-    let f = c.in-Here.is in
-    let done_is = ended a.self a.text.now a.words.now a.k done e.words_after e.value c.span-s.ensures c.is_last.ensures (sym f ∙ c.chunk_fault-found.ensures) in
+    let found = sym c.in-Some.is ∙ c.chunk_fault.ensures in
     record {
-      hands = ap (handed (Faulty _)) (c.with_state.ensures ∙ ap (λ (j : Job). with_state j (Stopped c.in-Here.f)) c.with_chunk-job.ensures) ∙ done_is;
-      leaves = left a.self a.text.now a.words.now a.k done e.words_after e.value c.span-s.ensures c.is_last.ensures (sym f ∙ c.chunk_fault-found.ensures);
+      hands =
+          ap (handed (Faulty _)) (c.with_state.ensures ∙ ap (λ (j : Job). with_state j (Stopped c.in-Some.f)) c.with_chunk-job.ensures)
+          ∙ ended a.self a.text.now a.words.now a.k done e.words_after e.value c.span-s.ensures c.is_last.ensures found;
+      leaves = left a.self a.text.now a.words.now a.k done e.words_after e.value c.span-s.ensures c.is_last.ensures found;
     }

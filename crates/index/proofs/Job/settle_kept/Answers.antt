@@ -1,19 +1,21 @@
 -- `settle_kept` meets its contract: a right guess changes nothing.
-use mathlib.Core.Path.{◌≡◌, sym, ap, ◌∙◌, subst}
-use mathlib.Core.Bool.{true, false}
+use mathlib.Core.Path.{◌≡◌, sym, ap, ap₂, ◌∙◌, subst}
+use mathlib.Core.Bool.{Bool, true, false, not}
 use mathlib.Core.List.{List}
 use Prim.Native.Nat.{ℕ}
 use lib.ListN.{length}
 use Rattle.rules.specs.Word.{xor}
 use Rattle.index.specs.declared.Kept.{Kept}
+use Rattle.index.specs.declared.Chunk.{Chunk}
 use Rattle.index.specs.declared.Job.{Job}
-use Rattle.index.specs.declared.checks.Span.{Span}
+use Rattle.chunks.specs.declared.Span.{Span}
 use Rattle.blocks.specs.declared.swing.Swing.{Swing}
 use Rattle.blocks.specs.Swinging.{Small}
 use Rattle.index.specs.Checks.{chunk_at, span_of}
 use Rattle.index.specs.Depth.{kept_of}
 use Rattle.chunks.specs.Flipping.{flip_words, swing_in}
 use Rattle.index.specs.Settling.{guess_wrong, settle_kept, settle_words}
+use Rattle.index.proofs.Differs.{xor_ne}
 use Rattle.index.proofs.StepLaws.{lent_chunk, small_swing}
 use Rattle.index.proofs.Job.settle_kept.Goals as goal
 
@@ -30,24 +32,15 @@ module _ (j : Job) (text words after : List ℕ) (k : ℕ) where
     ea ∙ ap (λ (x : Span). flip_words (length text) j.levels x.from x.to words) es ∙ rw e,
   )
 
-pub bounds-self-k : goal.bounds-self-k
-bounds-self-k c = c.requires.chunk
-
-pub inside_of-requires : goal.inside_of-requires
-inside_of-requires c = c.requires.chunk
-
-pub returns-then-not-differs : goal.returns-then-not-differs
+pub returns-then-c-inside_of : goal.returns-then-c-inside_of
 unfolding guess_wrong
-returns-then-not-differs c = let a = c.args in
-    let is = right a.self a.text.now a.words.now a.words.now a.k (sym (c.differs.ensures ∙ ap (xor (chunk_at a.self a.k).inside) c.inside_of.ensures) ∙ c.if-not-differs.true) in
-    record { value = is.0; words_after = is.1 }
-
-pub span-s-requires : goal.span-s-requires
-span-s-requires c = (c.requires.short, c.requires.chunk)
+returns-then-c-inside_of c = let a = c.args in
+    let alike = xor_ne _ _ ∙ ap₂ (λ (x : Chunk) (b : Bool). xor x.inside b) c.chunk-c.ensures c.inside_of.ensures in
+    let is = right a.self a.text.now a.words.now a.words.now a.k (sym alike ∙ ap not c.if-c-inside_of.true) in
+    record { value = ap (λ (x : Chunk). x.kept) c.chunk-c.ensures ∙ is.0; words_after = is.1 }
 
 pub flip_words-swing-requires : goal.flip_words-swing-requires
-flip_words-swing-requires c = let a = c.args in
-    rw c.span-s.ensures (lent_chunk a.self a.text.now a.words.now a.k c.requires)
+flip_words-swing-requires c = let a = c.args in rw c.span-s.ensures (lent_chunk a.self a.text.now a.words.now a.k c.requires)
 
 pub kept_of-requires : goal.kept_of-requires
 unfolding swing_in
@@ -59,6 +52,7 @@ kept_of-requires c = let a = c.args in
 pub returns : goal.returns
 unfolding guess_wrong
 returns c = let a = c.args in
-    let is = wrong a.self a.text.now a.words.now c.flip_words-swing.new.words a.k (sym (c.differs.ensures ∙ ap (xor (chunk_at a.self a.k).inside) c.inside_of.ensures) ∙ c.if-not-differs.false)
-    c.span-s.ensures c.flip_words-swing.ensures.value c.kept_of.ensures c.flip_words-swing.ensures.words_after in
+    let alike = xor_ne _ _ ∙ ap₂ (λ (x : Chunk) (b : Bool). xor x.inside b) c.chunk-c.ensures c.inside_of.ensures in
+    let kept = c.kept_of.ensures ∙ ap (λ (x : Chunk). kept_of x.kept.odd c.flip_words-swing.result) c.chunk-c.ensures in
+    let is = wrong a.self a.text.now a.words.now c.flip_words-swing.new.words a.k (sym alike ∙ ap not c.if-c-inside_of.false) c.span-s.ensures c.flip_words-swing.ensures.value kept c.flip_words-swing.ensures.words_after in
     record { value = is.0; words_after = is.1 }

@@ -1,16 +1,8 @@
 -- `kept_of` meets its contract: counts are small, so their differences fit 32 bits.
 use native.Mathlib.Omega.{arith}
 use Rattle.index.specs.Depth.{kept_of}
-use Rattle.index.proofs.Signed.{minus_fits, minus_read, count_read}
+use Rattle.index.proofs.Signed.{minus_read, count_read}
 use Rattle.index.proofs.depth.kept_of.Goals as goal
-
-pub overflow_sub-result : goal.overflow_sub-result
-overflow_sub-result c = let s = c.args.s in let p = c.requires in
-    rw (count_read s.up p.ups, count_read s.down p.downs) (minus_fits s.up s.down p.ups p.downs)
-
-pub overflow_sub-result-2 : goal.overflow_sub-result-2
-overflow_sub-result-2 c = let s = c.args.s in let p = c.requires in
-    rw (count_read s.dip p.dips) (minus_fits 0 s.dip (omega arith) p.dips)
 
 pub returns : goal.returns
 unfolding kept_of

@@ -4,4 +4,4 @@ use Rattle.index.proofs.opening.no_job.Goals as goal
 
 pub returns : goal.returns
 unfolding blank
-returns c = rw c.fresh_chunk-c.ensures
+returns c = rw c.fresh_chunk.ensures

@@ -1,24 +1,27 @@
 -- `chunk_fault` meets its contract.
-use mathlib.Core.Path.{sym, ap, ◌∙◌}
-use mathlib.Core.Bool.{Bool}
-use lib.ListN.{length}
+use Rattle.std.proofs.Common.{◌≡◌, Bool, Option, Some, None, length, refl, sym, ap, ap₂, ◌∙◌}
+use Rattle.std.specs.Option.{option_or}
 use Rattle.rules.specs.Word.{pick}
-use Rattle.index.specs.declared.settling.Found.TheVariants.{Nothing}
-use Rattle.index.specs.Settling.{end_fault}
+use Rattle.index.specs.declared.Fault.{Fault}
+use Rattle.index.specs.Settling.{end_fault, or_found}
 use Rattle.index.proofs.SettleLaws.{fault_sought}
 use Rattle.index.proofs.settling.chunk_fault.Goals as goal
 
-pub returns-in-Here : goal.returns-in-Here
-returns-in-Here c = let a = c.args in
-    let told = c.in-Here.is in
-    told ∙ sym (fault_sought a.c a.text.now a.words.now a.levels a.s a.last _ (sym c.sought_fault-found.ensures ∙ told))
+or_none : (x : Option Fault) → x ≡ or_found x None
+or_none None = refl
+or_none (Some f) = refl
+
+or_is : (x y : Option Fault) → option_or x y ≡ or_found x y
+or_is None y = refl
+or_is (Some f) y = refl
 
 pub returns-then-last : goal.returns-then-last
 returns-then-last c = let a = c.args in
-    c.end_fault.ensures ∙ ap (λ (l : Bool). pick l (end_fault a.c (length a.text.now)) Nothing) (sym c.if-last.true)
-    ∙ sym (fault_sought a.c a.text.now a.words.now a.levels a.s a.last Nothing (sym c.sought_fault-found.ensures ∙ c.in-Nothing.is))
+    c.or.ensures ∙ or_is c.sought_fault-found.result c.end_fault.result
+    ∙ ap₂ (λ (x : Option Fault) (l : Bool). or_found c.sought_fault-found.result (pick l x None)) c.end_fault.ensures (sym c.if-last.true)
+    ∙ sym (fault_sought a.c a.text.now a.words.now a.levels a.s a.last _ (sym c.sought_fault-found.ensures))
 
 pub returns-else-last : goal.returns-else-last
 returns-else-last c = let a = c.args in
-    ap (λ (l : Bool). pick l (end_fault a.c (length a.text.now)) Nothing) (sym c.if-last.false)
-    ∙ sym (fault_sought a.c a.text.now a.words.now a.levels a.s a.last Nothing (sym c.sought_fault-found.ensures ∙ c.in-Nothing.is))
+    or_none _ ∙ ap (λ (l : Bool). or_found c.sought_fault-found.result (pick l (end_fault a.c (length a.text.now)) None)) (sym c.if-last.false)
+    ∙ sym (fault_sought a.c a.text.now a.words.now a.levels a.s a.last _ (sym c.sought_fault-found.ensures))

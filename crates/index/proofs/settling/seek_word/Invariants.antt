@@ -13,8 +13,5 @@ pub record Inv (opens closes depth base d at left : ℕ) : Type 0 where
   pub small : d ≤ depth + at
   pub so_far : (o c : ℕ → Bool) → Brackets o c base opens closes → seek o c depth base 64 ≡ seek o c d (base + at) (64 - at)
 
-abbrev pub invariant-loop-left : goal.invariant-loop-left
-invariant-loop-left l = Inv l.opens l.closes l.depth l.base l.d l.at l.left
-
-abbrev pub decreases-loop-left : goal.decreases-loop-left
-decreases-loop-left l = 64 - l.at
+abbrev pub invariant-loop-place : goal.invariant-loop-place
+invariant-loop-place l = Inv l.opens l.closes l.depth l.base l.d l.place-iterator.at l.place-iterator.left

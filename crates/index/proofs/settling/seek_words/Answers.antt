@@ -1,5 +1,7 @@
 -- `seek_words` meets its contract: what is left of the walk is the whole walk, as long as no fault was met.
+use Rattle.std.specs.Prelude.{Result, Ok, Err}
 use native.Mathlib.Omega.{arith}
+use borrow.Author.Rules.{rules}
 use mathlib.Core.Path.{◌≡◌, refl, sym, ap, ◌∙◌}
 use mathlib.Core.Bool.{Bool}
 use mathlib.Core.List.{List}
@@ -13,8 +15,6 @@ use Rattle.rules.specs.Layout.{mask, cell}
 use Rattle.rules.proofs.RuleLaws.{plain_apart}
 use Rattle.layout.specs.declared.Map.TheVariants.{Mask}
 use Rattle.index.specs.declared.Fault.{Fault}
-use Rattle.index.specs.declared.settling.Sought.{Sought}
-use Rattle.index.specs.declared.settling.Sought.TheVariants.{On, At}
 use Rattle.blocks.specs.declared.block.Classes.{Classes}
 use Rattle.blocks.specs.Block.{BlockOf}
 use Rattle.blocks.specs.Swinging.{Brackets}
@@ -44,7 +44,7 @@ module _ {text words : List ℕ} {levels from to width start depth w : ℕ} (len
   parts : 64 * (to - w) ≡ 64 + 64 * (to - (w + 1))
   parts = omega arith
 
-  module _ {v : ℕ} {classes : Classes} {found : Sought} (ev : v ≡ cell words levels width mask w) (fits : v < 2 ^ 64)
+  module _ {v : ℕ} {classes : Classes} {found : Result ℕ Fault} (ev : v ≡ cell words levels width mask w) (fits : v < 2 ^ 64)
       (block : BlockOf (λ c j. has c text (64 * w + j)) classes)
       (sought : (o c : ℕ → Bool) → Brackets o c (64 * w) (bit_and classes.opens (2 ^ 64 - 1 - v)) (bit_and classes.closes (2 ^ 64 - 1 - v)) → found ≡ seek o c depth (64 * w) 64) where
     found_is : found ≡ seek o c depth (64 * w) 64
@@ -54,10 +54,10 @@ module _ {text words : List ℕ} {levels from to width start depth w : ℕ} (len
         let m = mask_word_of words levels (length text) w inv.wide ev fits in
         sought o c (record { apart = plain_apart by text; opens_are = plain_of text w by opens block.opens_are m; closes_are = plain_of text w by closes block.closes_are m })
 
-    stop : {f : Fault} → found ≡ At f → seek_in text words levels from to start ≡ At f
+    stop : {f : Fault} → found ≡ Err f → seek_in text words levels from to start ≡ Err f
     stop e = inv.so_far ∙ ap (seek o c depth (64 * w)) parts ∙ seek_at o c depth (64 * w) 64 (64 * (to - (w + 1))) (sym found_is ∙ e)
 
-    turn : {d : ℕ} → found ≡ On d → Inv text words levels from to width start d (w + 1)
+    turn : {d : ℕ} → found ≡ Ok d → Inv text words levels from to width start d (w + 1)
     turn {d} e =
         record {
           low = omega (arith, inv.low);
@@ -70,26 +70,21 @@ module _ {text words : List ℕ} {levels from to width start depth w : ℕ} (len
 
 pub loop-w-init : goal.loop-w-init
 unfolding seek_in
-loop-w-init c = record { low = omega arith; wide = c.width_of-width.ensures; small = omega arith; so_far = refl }
-
-pub overflow_mul-at : goal.overflow_mul-at
-overflow_mul-at c = omega (arith, here c.requires c.loop-w.invariant c.loop-w-test.true, c.requires.small)
+loop-w-init c = record { low = omega arith; wide = c.new-shape.ensures.wide; small = omega arith; so_far = refl }
 
 pub block-b-requires : goal.block-b-requires
 block-b-requires c = omega (arith, here c.requires c.loop-w.invariant c.loop-w-test.true)
 
-pub get_word-mask-requires : goal.get_word-mask-requires
-get_word-mask-requires c = record { in_map = lent_map c.requires c.loop-w.invariant.wide Mask c.loop-w.w tt c.loop-w-test.true; words_len = lent_long c.requires c.loop-w.invariant.wide }
+pub word-mask-requires : goal.word-mask-requires
+word-mask-requires c = rw c.new-shape.ensures.levels_kept (record { in_map = lent_map c.requires c.loop-w.invariant.wide Mask c.loop-w.w tt c.loop-w-test.true; words_len = lent_long c.requires c.loop-w.invariant.wide })
 
-pub seek_word-sought-requires : goal.seek_word-sought-requires
-seek_word-sought-requires c = (shallow c.requires c.loop-w.invariant c.loop-w-test.true c.ranges.start.fits, omega (arith, here c.requires c.loop-w.invariant c.loop-w-test.true, c.requires.small))
-
-pub returns-in_default : goal.returns-in_default
-returns-in_default c =
-    c.in_default.is ∙ sym (stop c.requires c.loop-w.invariant c.loop-w-test.true c.get_word-mask.ensures c.get_word-mask.type_inv (c.block-b.ensures c.table-t.ensures) c.seek_word-sought.ensures c.in_default.is)
+pub returns-in_err-depth : goal.returns-in_err-depth
+returns-in_err-depth c =
+    let e : c.from_residual.result ≡ Err c.in_err-depth.field-0.0 = search rules in
+    e ∙ sym (stop c.requires c.loop-w.invariant c.loop-w-test.true (rw c.new-shape.ensures.levels_kept at c.word-mask.ensures) c.word-mask.type_inv (c.block-b.ensures c.table-t.ensures) c.seek_word.ensures c.in_err-depth.was)
 
 pub loop-w-preserved : goal.loop-w-preserved
-loop-w-preserved c = turn c.requires c.loop-w.invariant c.loop-w-test.true c.get_word-mask.ensures c.get_word-mask.type_inv (c.block-b.ensures c.table-t.ensures) c.seek_word-sought.ensures c.in-On.is
+loop-w-preserved c = turn c.requires c.loop-w.invariant c.loop-w-test.true (rw c.new-shape.ensures.levels_kept at c.word-mask.ensures) c.word-mask.type_inv (c.block-b.ensures c.table-t.ensures) c.seek_word.ensures c.in_ok-depth.was
 
 pub returns : goal.returns
 unfolding seek

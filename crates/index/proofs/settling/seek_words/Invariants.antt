@@ -17,7 +17,4 @@ pub record Inv (text words : List ℕ) (levels from to width start depth w : ℕ
   pub so_far : seek_in text words levels from to start ≡ seek (plain (mask_in words levels (length text)) opens text) (plain (mask_in words levels (length text)) closes text) depth (64 * w) (64 * (to - w))
 
 abbrev pub invariant-loop-w : goal.invariant-loop-w
-invariant-loop-w l = Inv l.text l.words l.levels l.from l.to l.width l.start l.depth l.w
-
-abbrev pub decreases-loop-w : goal.decreases-loop-w
-decreases-loop-w l = l.to - l.w
+invariant-loop-w l = Inv l.text l.words l.levels l.from l.to l.shape.width l.start l.depth l.w

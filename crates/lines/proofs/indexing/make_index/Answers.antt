@@ -6,7 +6,7 @@ use Rattle.lines.proofs.indexing.make_index.Goals as goal
 
 pub returns-then-is_balanced : goal.returns-then-is_balanced
 returns-then-is_balanced c = let a = c.args in
-    let all = made_judged a.line.now a.levels a.words.now _ _ c.width_of-width.result c.scan_words-swept.result c.width_of-width.ensures
+    let all = made_judged a.line.now a.levels a.words.now _ _ c.width_of.result c.scan_words-swept.result c.width_of.ensures
     c.scan_words-swept.ensures.value c.scan_words-swept.ensures.words_after (sym c.is_balanced.ensures ∙ c.if-is_balanced.true) c.level_words.ensures in
     record { value = all.0; words_after = all.1 }
 

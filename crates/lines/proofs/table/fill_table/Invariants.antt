@@ -4,8 +4,8 @@ use lib.ListN.{length}
 use Rattle.lines.proofs.TableLaws.{Filling}
 use Rattle.lines.proofs.table.fill_table.Given as goal
 
-abbrev pub invariant-loop-at : goal.invariant-loop-at
-invariant-loop-at l = Filling l.text l.initial.table l.table l.i l.at
+abbrev pub invariant-loop-line : goal.invariant-loop-line
+invariant-loop-line l = Filling l.text l.initial.table l.table l.i l.at
 
-abbrev pub decreases-loop-at : goal.decreases-loop-at
-decreases-loop-at l = length l.text - l.at
+abbrev pub decreases-loop-line : goal.decreases-loop-line
+decreases-loop-line l = length l.text - l.at
