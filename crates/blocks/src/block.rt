@@ -41,7 +41,7 @@ fn woven(x: u64, y: u64) -> u64
     evens(x) + 0x100 * evens(y)
 }
 
-// The low 16 bits of each half. (No instance of `evens`: two terms and not four, and the proof is by the terms.)
+// The low 16 bits of each half. (No instance of `evens`, nor `joined` of `woven`: two terms and not four, and the proofs are by the terms.)
 fn halves(x: u64) -> u64
     ensures { result ≡ halves_of x }
 {

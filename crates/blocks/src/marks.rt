@@ -17,6 +17,7 @@ pub fn parities(x: u64) -> u64
     v
 }
 
+// (`Escaped` and `Masked` stay two: the listed theorem `escapes_spec` has the fields of the first, and `inside` is no carry.)
 #[derive(Clone, Copy)]
 pub struct Escaped {
     pub word: u64,

@@ -23,7 +23,8 @@ fn slot(up: u64, down: u64) -> usize
     if depth <= 16 { depth as usize } else { 0 }
 }
 
-// `up` counts the openers before the word, with the starting depth, and `down` the closers.
+// `up` counts the openers before the word, with the starting depth, and `down` the closers. (Openers and closers as two words, here and in
+// `brackets`: the listed theorems `spread_word_spec` and `brackets_spec` have the two.)
 pub fn spread_word(opens: u64, closes: u64, mut up: u64, mut down: u64) -> Spread
     requires { (up ≤ 1099511627776) × (down ≤ 1099511627776) }
     ensures { (o c : ℕ → Bool) (i s : ℕ) → Brackets o c i opens closes → up ≡ s + count o i → down ≡ count c i → SpreadOf s o c i result }

@@ -25,7 +25,7 @@ use Rattle.chunks.specs.Levels.{level_words}
 use Rattle.index.specs.Levelling.{levelled_words}
 use Rattle.index.specs.Frames.{writes, Frame}
 use Rattle.chunks.proofs.WriteLaws.{over_out}
-use Rattle.index.proofs.StepLaws.{fitting}
+use Rattle.index.proofs.StepLaws.{fitted}
 
 module _ (s : Step) (j : Job) (n k : ℕ) (words : List ℕ) where
   pub frame_none : Frame s j n k words words
@@ -81,11 +81,11 @@ module _ (j : Job) (text words : List ℕ) (k : ℕ) where
   unfolding scanned_words scan_words
   scan_frame g =
       frame_of Scan j (length text) k words _
-      (λ e. frame_rewritten Scan j (length text) k words _ _ (fitting Scan j _ _ k e).total (scan_own _))
+      (λ e. frame_rewritten Scan j (length text) k words _ _ (fitted Scan j _ _ k e).total (scan_own _))
 
   pub settle_frame : Frame Settle j (length text) k words (settled_words j text words k)
   unfolding settled_words settle_words flip_words
-  settle_frame = frame_of Settle j (length text) k words _ (λ e. go (guess_wrong j k) (fitting Settle j _ _ k e).total)
+  settle_frame = frame_of Settle j (length text) k words _ (λ e. go (guess_wrong j k) (fitted Settle j _ _ k e).total)
     where
       go : (b : Bool) → length words ≡ size_of j.levels (length text)
           → Frame Settle j (length text) k words (pick b (flip_words (length text) j.levels (span_of j (length text) k).from (span_of j (length text) k).to words) words)
@@ -96,4 +96,4 @@ module _ (j : Job) (text words : List ℕ) (k : ℕ) where
   unfolding levelled_words level_words
   level_frame =
       frame_of Level j (length text) k words _
-      (λ e. frame_rewritten Level j (length text) k words _ _ (fitting Level j _ _ k e).total (level_own _))
+      (λ e. frame_rewritten Level j (length text) k words _ _ (fitted Level j _ _ k e).total (level_own _))

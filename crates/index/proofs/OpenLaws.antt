@@ -1,5 +1,5 @@
 -- Opening, test by test: which cut is bad, the first of them, and what a call is refused with.
-use mathlib.Core.Path.{◌≡◌, refl}
+use mathlib.Core.Path.{◌≡◌, refl, sym, ap}
 use mathlib.Core.Bool.{Bool, true, false, not, ◌||◌, or-true}
 use mathlib.Core.List.{List}
 use Prim.Native.Nat.{ℕ, zero, suc, ◌+◌, ◌-◌, ◌%◌, ◌≤◌, ◌<◌}
@@ -13,9 +13,10 @@ use Rattle.rules.specs.Word.{pick}
 use Rattle.rules.specs.Layout.{size_of}
 use Rattle.index.specs.declared.Refusal.TheVariants.{Empty, TooLong, BadLevels, BadBuffer, ManyCuts, BadCut}
 use Rattle.index.specs.declared.Answer.TheVariants.{Done, Refused}
-use Rattle.index.specs.Opening.{not_above, bad_cut, first, first_bad, open_checks, opening, open_job, opened}
+use Rattle.index.specs.declared.Answer.{Answer}
+use Rattle.index.specs.Opening.{not_above, bad_cut, first, first_bad, open_checks, opening, no_job, open_job, opened}
 use Rattle.blocks.proofs.SwingLaws.{or_none}
-use Rattle.index.proofs.AnswerLaws.{handed}
+use Rattle.index.proofs.AnswerLaws.{handed, not_done}
 use Rattle.index.proofs.CheckLaws.{not_refused}
 
 -- ---- the first number of which a test holds
@@ -156,6 +157,12 @@ module _ (n w levels : ℕ) (cuts : List ℕ) where
         cuts_few = ltb-false _ _ c5.0;
         all_good = ltb-false _ _ c6.0;
       }
+
+  pub open_refused : (a : Answer) → a ≡ opening n w levels cuts → (a ≡ Done → ⊥) → handed a no_job ≡ opened n w levels cuts
+  unfolding opened
+  open_refused a e h =
+      let t = rw e at h in
+      rw e (ap (handed (opening n w levels cuts)) (sym (not_done (opening n w levels cuts) (open_job n levels cuts) no_job t)))
 
   pub open_done : opening n w levels cuts ≡ Done → handed Done (open_job n levels cuts) ≡ opened n w levels cuts
   unfolding opened

@@ -41,6 +41,7 @@ impl Job {
         }
     }
 
+    // (Three flags of `Chunk`, whose fields the definitions fix, as a value of their own.)
     pub fn ask(self, k: usize) -> Asked
         ensures { AskGives self k result }
     {

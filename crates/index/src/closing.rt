@@ -13,7 +13,7 @@ impl Job {
         self.chunks.iter().take(self.chunks()).all(|c| c.levelled)
     }
 
-    // The refusal of a close, 7, 9 and 12 in this order, or the fault that the job stopped with.
+    // The refusal of a close, 7, 9 and 12 in this order, or the fault that the job stopped with: three outcomes, as `Answer` has.
     fn close_answer(&self, n: usize, w: usize) -> Answer
         ensures { result ≡ closing self.now n w }
     {

@@ -67,7 +67,8 @@ pub(crate) struct Kept {
     pub(crate) high: i32,
 }
 
-// `inside` is the guess, and once settled the truth, about its first byte; `start` the depth there.
+// `inside` is the guess, and once settled the truth, about its first byte; `start` the depth there. (The three steps are flags beside what
+// they speak of, and no Options: the definitions and theorems speak of any job, with these fields whatever the flags.)
 #[derive(Clone, Copy)]
 pub(crate) struct Chunk {
     pub(crate) cut: usize,

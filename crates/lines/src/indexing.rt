@@ -12,6 +12,7 @@ use index::{Answer, Refusal};
 use layout::{size_of, width_of};
 use std::ops::Range;
 
+// By arms: a case with a refusal or a fault has that one's numbers.
 impl LineAnswer {
     pub fn number(self) -> u64
         ensures { result ≡ line_number self }

@@ -74,7 +74,7 @@ fn name_end(path: &[u8], from: usize) -> usize
     path.len()
 }
 
-// A value stays at 16,777,216 once it is above 16,777,215.
+// A value stays at 16,777,216 once it is above 16,777,215. (No Option: `told`, which `read_step` promises, has that number.)
 fn read_digits(path: &[u8], from: usize) -> Digits
     requires { from ≤ length path.now }
     ensures { (result.end ≡ run_end is_digit path.now from) × (result.value ≡ min (decimal path.now from (result.end - from)) 16777216) }

@@ -11,16 +11,27 @@ use Rattle.rules.specs.Layout.{width_of, size_of}
 use Rattle.paths.specs.Grammar.{Selector}
 use Rattle.paths.specs.Path.{Reading, good, bad, read_path, large}
 use Rattle.paths.specs.Helpers.{checked_reading, path_check}
-use Rattle.query.specs.Items.{lent}
-use Rattle.query.specs.Walk.{walk}
+use Rattle.query.specs.Item as Items
+use Rattle.query.specs.Items.{lent, trim_start, trim_end, value_at}
+use Rattle.query.specs.Walk.{of_item, walk}
+use Rattle.query.specs.declared.types.Cause.TheVariants.{EmptyValue}
 use Rattle.query.specs.Answers.{after_reading, answer_of}
 use Rattle.paths.specs.declared.PathRefusal.{PathRefusal}
 use Rattle.paths.specs.declared.PathRefusal.TheVariants as Checks
 use Rattle.std.proofs.Common.{Result, Ok, Err}
 use Rattle.query.specs.Helpers.{path_refusal}
-use Rattle.query.specs.declared.types.Refusal.TheVariants.{BadPath, TooLarge, TooDeep}
+use Rattle.query.specs.declared.types.Refusal.TheVariants.{BadPath, TooLarge, TooDeep, Broken}
 use Rattle.query.specs.Answer.{Answer, Refused}
 use Rattle.paths.proofs.Checking.{fits_fine}
+use Rattle.paths.proofs.PlaceLaws.{pick_ind}
+
+-- a value that is not found is empty
+pub value_empty : (byte : ℕ → ℕ) (a e : ℕ) → ((p q : ℕ) → value_at byte 0 a e ≡ Items.Found p q → ⊥)
+    → of_item (Broken EmptyValue 0 0) 0 (value_at byte 0 a e) ≡ Refused (Broken EmptyValue 0 0)
+unfolding value_at
+value_empty byte a e =
+    pick_ind (λ (it : Items.Item). ((p q : ℕ) → it ≡ Items.Found p q → ⊥) → of_item (Broken EmptyValue 0 0) 0 it ≡ Refused (Broken EmptyValue 0 0)) (ltb (trim_start byte a e) (trim_end byte a e)) _ _
+    (λ _ h. absurd (h _ _ refl)) (λ _ h. refl)
 
 -- what a check answers; a path that is fine is walked
 abbrev pub on_check : Result (Unit {0}) PathRefusal → Answer → Answer

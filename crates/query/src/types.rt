@@ -80,6 +80,7 @@ impl Cause {
     }
 }
 
+// By arms: a case with a place has no number of its own to cast.
 impl Refusal {
     pub fn number(self) -> u64
         ensures { result ≡ refusal_number self }

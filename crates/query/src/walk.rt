@@ -99,7 +99,7 @@ impl<'a> Lent<'a> {
         of_item(Miss::NoNumber, k, a, item)
     }
 
-    // All steps of a path that was checked, so that none is refused, from the value of `$` on.
+    // All steps of a path that was checked, so that none is refused, from the value of `$` on. (A `loop`: it ends where no step is left.)
     #[tactic(auto, using(paths::proofs::PathLaws::name_told, paths::proofs::PathLaws::number_told, crate::proofs::Going::going_start, crate::proofs::Going::level_name, crate::proofs::Going::going_name, crate::proofs::Going::level_number, crate::proofs::Going::going_number))]
     fn walk_path(&self, path: &[u8], whole: Range<usize>) -> Answer
         requires from_le_to { (whole.start ≤ whole.end) × (whole.end ≤ length self.now.text.now) }

@@ -13,7 +13,7 @@ use Rattle.show.specs.Running.{multiples}
 use mathlib.Core.Bool.{false}
 use Rattle.memchr.specs.Find.{Nowhere, NoneBefore, Passes, is_byte}
 use Rattle.std.proofs.lemmas.Bool.{false_from_ne_true}
-use Rattle.paths.proofs.PlaceLaws.{first_at_is, first_all}
+use Rattle.paths.proofs.PlaceLaws.{first_le, first_at_is, first_all}
 use Rattle.show.specs.Printing.{is_feed, path_end, placed, zeros, printed_of, shown}
 
 -- ---- buffers
@@ -58,6 +58,10 @@ unfolding path_end
 feed_unfound input n = first_all (is_feed input) 0 (length input) (omega arith) (λ k p q. feed_missed input (length input) k n q)
 
 module _ (input : List ℕ) (at : ℕ) (here : at ≡ path_end input) where
+  pub end_within : at ≤ length input
+  unfolding path_end
+  end_within = rw here (first_le (is_feed input) 0 (length input) (omega arith))
+
   pub long_path : 1024 < at → placed 21 0 ≡ shown input
   unfolding shown
   long_path l = rw (← here, lt-ltb 1024 at l)

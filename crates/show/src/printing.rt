@@ -37,9 +37,11 @@ fn placed(number: u64, place: usize) -> Printed
 fn refused(why: Refusal) -> Printed
     ensures { result ≡ Printing.refusal_printed why }
 {
-    let number = why.number();
-    let place = if number < 23 { why.place() } else { 0 };
-    placed(number, place)
+    let place = match why {
+        Refusal::Missed { .. } | Refusal::Broken { .. } => 0,
+        _ => why.place(),
+    };
+    placed(why.number(), place)
 }
 
 fn query_printed(text: &[u8], words: &[u64], path: &[u8]) -> Printed

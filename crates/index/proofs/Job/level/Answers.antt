@@ -6,7 +6,7 @@ use Rattle.chunks.specs.declared.Span.{Span}
 use Rattle.index.specs.Checks.{with_chunk}
 use Rattle.chunks.specs.Levels.{level_words}
 use Rattle.index.specs.Levelling.{level_chunk, levelled, levelled_words}
-use Rattle.index.proofs.StepLaws.{fitting, lent_chunk, handed, check_refused, check_passed, as_done}
+use Rattle.index.proofs.StepLaws.{fitted, lent_chunk, handed, check_refused, check_passed, as_done}
 use Rattle.index.proofs.Job.level.Goals as goal
 
 pub returns-in-Err : goal.returns-in-Err
@@ -14,11 +14,11 @@ unfolding levelled levelled_words
 returns-in-Err c = let no = check_refused c.in-Err.is c.check.ensures in record { hands = rw no c.refused.ensures; leaves = rw no }
 
 pub span-s-requires : goal.span-s-requires
-span-s-requires c = (fitting Level _ _ _ c.args.k (check_passed c.in_default.not-Err c.check.ensures)).short
+span-s-requires c = (fitted Level _ _ _ c.args.k (check_passed c.in_default.not-Err c.check.ensures)).short
 
 pub level_words-requires : goal.level_words-requires
 level_words-requires c = let a = c.args in
-    rw c.span-s.ensures (lent_chunk a.self a.text.now a.words.now a.k (fitting Level _ _ _ a.k (check_passed c.in_default.not-Err c.check.ensures)))
+    rw c.span-s.ensures (lent_chunk a.self a.text.now a.words.now a.k (fitted Level _ _ _ a.k (check_passed c.in_default.not-Err c.check.ensures)))
 
 pub returns : goal.returns
 unfolding levelled levelled_words level_chunk

@@ -3,7 +3,7 @@ use Rattle.std.proofs.Common.{sym, ap, ap₂, ◌∙◌}
 use Rattle.index.specs.declared.Step.TheVariants.{Scan}
 use Rattle.index.specs.Checks.{with_chunk}
 use Rattle.index.specs.Scanning.{scanned, scanned_words}
-use Rattle.index.proofs.StepLaws.{fitting, handed, check_refused, check_passed, as_done}
+use Rattle.index.proofs.StepLaws.{fitted, handed, check_refused, check_passed, as_done}
 use Rattle.index.proofs.Job.scan.Goals as goal
 
 pub returns-in-Err : goal.returns-in-Err
@@ -11,7 +11,7 @@ unfolding scanned scanned_words
 returns-in-Err c = let no = check_refused c.in-Err.is c.check.ensures in record { hands = rw no c.refused.ensures; leaves = rw no }
 
 pub scan_chunk-c-requires : goal.scan_chunk-c-requires
-scan_chunk-c-requires c = fitting Scan _ _ _ c.args.k (check_passed c.in_default.not-Err c.check.ensures)
+scan_chunk-c-requires c = fitted Scan _ _ _ c.args.k (check_passed c.in_default.not-Err c.check.ensures)
 
 pub returns : goal.returns
 unfolding scanned scanned_words

@@ -16,7 +16,7 @@ use Rattle.index.specs.Checks.{with_chunk, with_state, span_of, is_last, refusal
 use Rattle.index.specs.Stepping.{Fitting}
 use Rattle.chunks.specs.Writing.{Lent}
 use Rattle.index.specs.Settling.{settle_words, settle_chunk, chunk_fault, found_answer, found_job, found_by, settled, settled_words}
-use Rattle.index.proofs.StepLaws.{fitting, lent_chunk, handed, check_refused, check_passed, as_done}
+use Rattle.index.proofs.StepLaws.{fitted, lent_chunk, handed, check_refused, check_passed, as_done}
 use Rattle.index.proofs.Job.settle.Goals as goal
 
 -- the words left are as long as those lent
@@ -53,14 +53,14 @@ unfolding settled settled_words
 returns-in-Err c = let no = check_refused c.in-Err.is c.check.ensures in record { hands = rw no c.refused.ensures; leaves = rw no }
 
 pub settle_chunk-c-requires : goal.settle_chunk-c-requires
-settle_chunk-c-requires c = fitting Settle _ _ _ c.args.k (check_passed c.in_default.not-Err c.check.ensures)
+settle_chunk-c-requires c = fitted Settle _ _ _ c.args.k (check_passed c.in_default.not-Err c.check.ensures)
 
 pub span-s-requires : goal.span-s-requires
-span-s-requires c = (fitting Settle _ _ _ c.args.k (check_passed c.in_default.not-Err c.check.ensures)).short
+span-s-requires c = (fitted Settle _ _ _ c.args.k (check_passed c.in_default.not-Err c.check.ensures)).short
 
 pub chunk_fault-requires : goal.chunk_fault-requires
 chunk_fault-requires c = let a = c.args in
-    lent_after a.self a.text.now a.words.now c.settle_chunk-c.new.words a.k (fitting Settle _ _ _ a.k (check_passed c.in_default.not-Err c.check.ensures)) c.settle_chunk-c.auto.words c.span-s.ensures
+    lent_after a.self a.text.now a.words.now c.settle_chunk-c.new.words a.k (fitted Settle _ _ _ a.k (check_passed c.in_default.not-Err c.check.ensures)) c.settle_chunk-c.auto.words c.span-s.ensures
 
 pub returns-in-None : goal.returns-in-None
 returns-in-None c = let a = c.args in
