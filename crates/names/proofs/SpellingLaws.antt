@@ -146,6 +146,10 @@ front_in bs some =
 pub spelt_in : {s : Spelt} (bs : List ℕ) → 0 < length bs → spelt bs ≡ Ok s → (s.more < length bs) × (s.more ≤ 11)
 spelt_in bs some e = rw e at (front_in bs some)
 
+-- the same of a name by the code's test that it is not empty
+pub spelt_within : {s : Spelt} (bs : List ℕ) → eqb (length bs) 0 ≡ false → spelt bs ≡ Ok s → (0 < length bs) × (s.more < length bs) × (s.more ≤ 11)
+spelt_within bs some e = let n = eqb-false (length bs) 0 some in let l : 0 < length bs = omega arith in let h = spelt_in bs l e in (l, h.0, h.1)
+
 -- ---- a name that is not empty
 
 another_one : (u : ℕ) (s : Spelling) → another (with_one u s) ≡ another s

@@ -13,7 +13,7 @@ use Rattle.rules.specs.Word.{pick}
 use Rattle.rules.proofs.Booleans.{impossible}
 use Rattle.paths.specs.Places.{byte_in, between}
 use Rattle.paths.specs.Grammar.{Selector, name, number}
-use Rattle.paths.specs.Path.{Step, step_at, Reading, good, bad, before, read_from, read_path, large}
+use Rattle.paths.specs.Path.{StepAt, step_at, Reading, good, bad, before, read_from, read_path, large}
 use Rattle.paths.specs.Helpers.{told, limits_of, checked_reading, path_check}
 use Rattle.paths.specs.declared.PathStep.TheVariants as Held
 use Rattle.paths.specs.declared.BadPath.{BadPath}
@@ -63,11 +63,11 @@ large_told v m e = go (ltb 16777215 m) refl
     go false h = le-ltb 16777215 v (omega (arith, ltb-false 16777215 m h)) ∙ sym h
 
 -- the rest is read behind the step
-pub read_name : (path : List ℕ) (at : ℕ) {b f x : ℕ} (c : ℕ) → step_at path at ≡ Step.Name b f x → read_from (suc c) path at ≡ before (name (between (byte_in path) b f)) (read_from c path x)
+pub read_name : (path : List ℕ) (at : ℕ) {b f x : ℕ} (c : ℕ) → step_at path at ≡ StepAt.Name b f x → read_from (suc c) path at ≡ before (name (between (byte_in path) b f)) (read_from c path x)
 unfolding read_from
 read_name path at c e = rw e
 
-pub read_number : (path : List ℕ) (at : ℕ) {v x : ℕ} (c : ℕ) → step_at path at ≡ Step.Number v x → read_from (suc c) path at ≡ before (number v) (read_from c path x)
+pub read_number : (path : List ℕ) (at : ℕ) {v x : ℕ} (c : ℕ) → step_at path at ≡ StepAt.Number v x → read_from (suc c) path at ≡ before (number v) (read_from c path x)
 unfolding read_from
 read_number path at c e = rw e
 

@@ -11,7 +11,7 @@ use lib.ListN.{length, get_or, get_or-eq_default}
 use borrow.Author.Tests.{le-leb, lt-leb, leb-true, ne_eqb}
 use Rattle.std.specs.Char.{is_ascii_digit, is_ascii_alphabetic}
 use Rattle.rules.specs.Word.{pick}
-use Rattle.paths.specs.Path.{in_range, is_digit, is_head, is_tail, run_end, decimal, number_end, bracketed, name_at, number_at, Step, step_at, on_step}
+use Rattle.paths.specs.Path.{in_range, is_digit, is_head, is_tail, run_end, decimal, number_end, bracketed, name_at, number_at, StepAt, step_at, on_step}
 use Rattle.paths.specs.Helpers.{told}
 use Rattle.paths.specs.declared.BadPath.{BadPath}
 use Rattle.paths.specs.declared.PathStep.{PathStep}
@@ -69,14 +69,14 @@ unfolding told
 told_large s e v =
     go (eqb (get_or s e 0) 93)
   where
-    go : (b : Bool) → told (pick b (Step.Number v (e + 1)) (Step.Refused e)) ≡ told (pick b (Step.Number (min v 16777216) (e + 1)) (Step.Refused e))
+    go : (b : Bool) → told (pick b (StepAt.Number v (e + 1)) (StepAt.Refused e)) ≡ told (pick b (StepAt.Number (min v 16777216) (e + 1)) (StepAt.Refused e))
     go true = let m : min (min v 16777216) 16777216 ≡ min v 16777216 = omega arith in rw m
     go false = refl
 
-pub name_none : (s : List ℕ) (a : ℕ) → is_head (get_or s a 0) ≡ false → name_at s a ≡ Step.Refused a
+pub name_none : (s : List ℕ) (a : ℕ) → is_head (get_or s a 0) ≡ false → name_at s a ≡ StepAt.Refused a
 name_none s a h = rw h
 
-pub name_some : (s : List ℕ) (a : ℕ) → is_head (get_or s a 0) ≡ true → name_at s a ≡ Step.Name a (run_end is_tail s (a + 1)) (run_end is_tail s (a + 1))
+pub name_some : (s : List ℕ) (a : ℕ) → is_head (get_or s a 0) ≡ true → name_at s a ≡ StepAt.Name a (run_end is_tail s (a + 1)) (run_end is_tail s (a + 1))
 name_some s a h = rw h
 
 -- no class that 0 is not in has a byte behind the path
@@ -91,7 +91,7 @@ pub digit_behind : (s : List ℕ) (a : ℕ) → length s ≤ a → is_digit (get
 unfolding is_digit
 digit_behind = behind is_digit refl
 
-pub number_none : (s : List ℕ) (a : ℕ) → is_digit (get_or s a 0) ≡ false → number_at s a ≡ Step.Refused a
+pub number_none : (s : List ℕ) (a : ℕ) → is_digit (get_or s a 0) ≡ false → number_at s a ≡ StepAt.Refused a
 number_none s a h = rw h
 
 pub number_zero : (s : List ℕ) (a : ℕ) → get_or s a 0 ≡ 48 → number_at s a ≡ bracketed s (a + 1) 0
@@ -110,7 +110,7 @@ number_long s a l d h =
 
 -- ---- a step that begins at `at` lies in the path, and what follows it is further on
 
-abbrev pub Ends : List ℕ → ℕ → Step → Type 0
+abbrev pub Ends : List ℕ → ℕ → StepAt → Type 0
 Ends s at st = on_step st (λ b f x. (b < f) × (f ≤ length s) × (at < x) × (x ≤ length s)) (λ v x. (at < x) × (x ≤ length s)) (Unit {0}) (λ p. Unit {0})
 
 name_ends : (s : List ℕ) (at a : ℕ) → at < a → Ends s at (name_at s a)
@@ -149,31 +149,31 @@ step_ends s at =
 -- ---- the step that the code holds
 
 -- what the step is, by what the code holds of it
-abbrev Of : Step → Result (Option PathStep) BadPath → Type 0
-Of st (Ok (Some (Held.Name b f x))) = st ≡ Step.Name b f x
-Of st (Ok (Some (Held.Number m x))) = (v : ℕ) × (st ≡ Step.Number v x) × (m ≡ min v 16777216)
-Of st (Ok None) = st ≡ Step.End
-Of st (Err bad) = st ≡ Step.Refused bad.place
+abbrev Of : StepAt → Result (Option PathStep) BadPath → Type 0
+Of st (Ok (Some (Held.Name b f x))) = st ≡ StepAt.Name b f x
+Of st (Ok (Some (Held.Number m x))) = (v : ℕ) × (st ≡ StepAt.Number v x) × (m ≡ min v 16777216)
+Of st (Ok None) = st ≡ StepAt.End
+Of st (Err bad) = st ≡ StepAt.Refused bad.place
 
-of_told : (st : Step) → Of st (told st)
+of_told : (st : StepAt) → Of st (told st)
 unfolding told
-of_told (Step.Name b f x) = refl
-of_told (Step.Number v x) = (v, refl, refl)
-of_told Step.End = refl
-of_told (Step.Refused p) = refl
+of_told (StepAt.Name b f x) = refl
+of_told (StepAt.Number v x) = (v, refl, refl)
+of_told StepAt.End = refl
+of_told (StepAt.Refused p) = refl
 
 module _ (s : List ℕ) (at : ℕ) where
   held : {r : Result (Option PathStep) BadPath} → told (step_at s at) ≡ r → Of (step_at s at) r
   held e = subst (Of (step_at s at)) e (of_told (step_at s at))
 
-  pub name_told : {b f x : ℕ} → told (step_at s at) ≡ Ok (Some (Held.Name b f x)) → (step_at s at ≡ Step.Name b f x) × (b < f) × (f ≤ length s) × (at < x) × (x ≤ length s)
+  pub name_told : {b f x : ℕ} → told (step_at s at) ≡ Ok (Some (Held.Name b f x)) → (step_at s at ≡ StepAt.Name b f x) × (b < f) × (f ≤ length s) × (at < x) × (x ≤ length s)
   name_told e = let q = held e in let i = subst (Ends s at) q (step_ends s at) in (q, i.0, i.1, i.2, i.3)
 
-  pub number_told : {m x : ℕ} → told (step_at s at) ≡ Ok (Some (Held.Number m x)) → (v : ℕ) × (step_at s at ≡ Step.Number v x) × (m ≡ min v 16777216) × (at < x) × (x ≤ length s)
+  pub number_told : {m x : ℕ} → told (step_at s at) ≡ Ok (Some (Held.Number m x)) → (v : ℕ) × (step_at s at ≡ StepAt.Number v x) × (m ≡ min v 16777216) × (at < x) × (x ≤ length s)
   number_told e = let q = held e in let i = subst (Ends s at) q.1 (step_ends s at) in (q.0, q.1, q.2, i.0, i.1)
 
-  pub end_told : told (step_at s at) ≡ Ok None → step_at s at ≡ Step.End
+  pub end_told : told (step_at s at) ≡ Ok None → step_at s at ≡ StepAt.End
   end_told e = held e
 
-  pub bad_told : {bad : BadPath} → told (step_at s at) ≡ Err bad → step_at s at ≡ Step.Refused bad.place
+  pub bad_told : {bad : BadPath} → told (step_at s at) ≡ Err bad → step_at s at ≡ StepAt.Refused bad.place
   bad_told e = held e

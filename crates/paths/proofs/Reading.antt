@@ -15,7 +15,7 @@ use borrow.Author.Tests.{ltb-true, ltb-false, eqb-true, not-true, not-false, ne_
 use Rattle.rules.specs.Word.{pick}
 use Rattle.paths.specs.Places.{byte_in, between}
 use Rattle.paths.specs.Grammar.{Selector, name, number, Path, Begins, RefusedAt}
-use Rattle.paths.specs.Path.{is_digit, is_head, is_tail, run_end, decimal, number_end, bracketed, name_at, number_at, Step, step_at, on_step, Reading, good, bad, before, read_from, read_path}
+use Rattle.paths.specs.Path.{is_digit, is_head, is_tail, run_end, decimal, number_end, bracketed, name_at, number_at, StepAt, step_at, on_step, Reading, good, bad, before, read_from, read_path}
 use Rattle.paths.proofs.PlaceLaws.{between_none, between_some, pick_ind, first_ind, first_le, first_hit}
 use Rattle.paths.proofs.PathLaws.{Ends, step_ends, inside, decimal_next}
 use Rattle.paths.proofs.Machine.{Mode, start, after, dotted, opened, nought, naming, counting, Move, stop, to, emit, move, ended, follow, read, machine_reads}
@@ -98,7 +98,7 @@ stay_digits path b a l h =
 -- ---- a step
 
 -- what the machine makes of a step that begins at `at`
-abbrev Follows : List ℕ → ℕ → Step → Type 0
+abbrev Follows : List ℕ → ℕ → StepAt → Type 0
 Follows path at st =
     on_step st
     (λ b f x. from path after at ≡ before (name (between (byte_in path) b f)) (from path after x))
@@ -111,7 +111,7 @@ unfolding is_head is_tail is_digit byte_in
 name_follows path at a h g =
     let e = run_end is_tail path (a + 1) in
     let z : a + 1 ≡ suc a = add-one a in
-    pick_ind (Follows path at) (is_head (get_or path a 0)) (Step.Name a e e) (Step.Refused a)
+    pick_ind (Follows path at) (is_head (get_or path a 0)) (StepAt.Name a e e) (StepAt.Refused a)
     (λ c. let i : a < length path = inside is_head refl path a c in
     let k : e ≤ length path = first_le (λ k. not (is_tail (get_or path k 0))) (a + 1) (length path) (omega arith) in
     let s = stay_name path (a + 1) (omega arith) in
@@ -123,7 +123,7 @@ name_follows path at a h g =
 bracketed_follows : (m : Mode) (path : List ℕ) (at e v : ℕ) → e ≤ length path → ended m e ≡ bad e → move m (get_or path e 0) ≡ pick (eqb (get_or path e 0) 93) (emit (number v) after) stop
     → from path after at ≡ from path m e → Follows path at (bracketed path e v)
 bracketed_follows m path at e v h n q g =
-    pick_ind (Follows path at) (eqb (get_or path e 0) 93) (Step.Number v (e + 1)) (Step.Refused e)
+    pick_ind (Follows path at) (eqb (get_or path e 0) 93) (StepAt.Number v (e + 1)) (StepAt.Refused e)
     (λ c. g ∙ from_emit path m after (number v) e (inside (λ b. eqb b 93) refl path e c) (q ∙ rw c) ∙ ap (λ (j : ℕ). before (number v) (from path after j)) (sym (add-one e)))
     (λ c. g ∙ from_halt path m e h n (q ∙ rw c))
 
@@ -137,7 +137,7 @@ number_follows path at a h g =
     let z : a + 1 ≡ suc a = add-one a in
     let n : a - a ≡ 0 = omega arith in
     let d : decimal path a (a + 1 - a) ≡ get_or path a 0 - 48 = omega (arith, decimal_next path a a (omega arith), ap (decimal path a) n) in
-    pick_ind (Follows path at) (is_digit (get_or path a 0)) (bracketed path (number_end path a) (decimal path a (number_end path a - a))) (Step.Refused a)
+    pick_ind (Follows path at) (is_digit (get_or path a 0)) (bracketed path (number_end path a) (decimal path a (number_end path a - a))) (StepAt.Refused a)
     (λ c. let i : a < length path = inside is_digit refl path a c in
     let r = run_end is_digit path (a + 1) in
     let k : r ≤ length path = first_le (λ k. not (is_digit (get_or path k 0))) (a + 1) (length path) (omega arith) in
@@ -153,13 +153,13 @@ unfolding step_at
 step_follows path at h =
     let b = get_or path at 0 in
     let z : at + 1 ≡ suc at = add-one at in
-    let y3 : Step = pick (eqb b 91) (number_at path (at + 1)) (Step.Refused at) in
-    let y2 : Step = pick (eqb b 46) (name_at path (at + 1)) y3 in
-    pick_ind (Follows path at) (ltb at (length path)) y2 Step.End
+    let y3 : StepAt = pick (eqb b 91) (number_at path (at + 1)) (StepAt.Refused at) in
+    let y2 : StepAt = pick (eqb b 46) (name_at path (at + 1)) y3 in
+    pick_ind (Follows path at) (ltb at (length path)) y2 StepAt.End
     (λ l. let i : at < length path = ltb-true at (length path) l in
     pick_ind (Follows path at) (eqb b 46) (name_at path (at + 1)) y3
     (λ c. name_follows path at (at + 1) (omega arith) (from_go path after dotted at i (rw c) ∙ ap (from path dotted) (sym z)))
-    (λ c. pick_ind (Follows path at) (eqb b 91) (number_at path (at + 1)) (Step.Refused at)
+    (λ c. pick_ind (Follows path at) (eqb b 91) (number_at path (at + 1)) (StepAt.Refused at)
     (λ d. number_follows path at (at + 1) (omega arith) (from_go path after opened at i (rw (c, d)) ∙ ap (from path opened) (sym z)))
     (λ d. from_step path after at i ∙ rw (c, d))))
     (λ l. from_end path after at (omega (arith, ltb-false at (length path) l)))
@@ -172,12 +172,12 @@ read_from_is zero path at h l = absurd (omega arith)
 read_from_is (suc c) path at h l = go (λ x i j. read_from_is c path x i j) (step_at path at) (step_ends path at) (step_follows path at h)
   where
     go : ((x : ℕ) → x ≤ length path → length path - x < c → read_from c path x ≡ from path after x)
-        → (st : Step) → Ends path at st → Follows path at st
+        → (st : StepAt) → Ends path at st → Follows path at st
         → on_step st (λ b f x. before (name (between (byte_in path) b f)) (read_from c path x)) (λ v x. before (number v) (read_from c path x)) (good []) bad ≡ from path after at
-    go ih (Step.Name b f x) n p = ap (before (name (between (byte_in path) b f))) (ih x n.3 (omega arith)) ∙ sym p
-    go ih (Step.Number v x) n p = ap (before (number v)) (ih x n.1 (omega arith)) ∙ sym p
-    go ih Step.End n p = sym p
-    go ih (Step.Refused q) n p = sym p
+    go ih (StepAt.Name b f x) n p = ap (before (name (between (byte_in path) b f))) (ih x n.3 (omega arith)) ∙ sym p
+    go ih (StepAt.Number v x) n p = ap (before (number v)) (ih x n.1 (omega arith)) ∙ sym p
+    go ih StepAt.End n p = sym p
+    go ih (StepAt.Refused q) n p = sym p
 
 read_path_is : (path : List ℕ) → read_path path ≡ read start 0 path
 unfolding read_path

@@ -1,7 +1,7 @@
 -- What the contracts of private functions cite: the code's own way to tell a step and a path's check.
 use Rattle.std.specs.Prelude.{ℕ, min, Bool, List, length, ltb, Option, Some, None, Result, Ok, Err}
 use Rattle.rules.specs.Word.{pick}
-use Rattle.paths.specs.Path.{Step, Reading, good, bad, read_path, large}
+use Rattle.paths.specs.Path.{StepAt, Reading, good, bad, read_path, large}
 use Rattle.paths.specs.declared.BadPath.{BadPath}
 use Rattle.paths.specs.declared.PathStep.{PathStep}
 use Rattle.paths.specs.declared.PathStep.TheVariants.{Name, Number}
@@ -9,11 +9,11 @@ use Rattle.paths.specs.declared.PathRefusal.{PathRefusal}
 use Rattle.paths.specs.declared.PathRefusal.TheVariants.{Bad, TooLarge, TooDeep}
 
 -- a step as the code holds it: a number above 16,777,215 as 16,777,216
-unfoldable pub told : Step → Result (Option PathStep) BadPath
-told (Step.Name b f x) = Ok (Some (Name b f x))
-told (Step.Number v x) = Ok (Some (Number (min v 16777216) x))
-told Step.End = Ok None
-told (Step.Refused p) = Err (record { place = p })
+unfoldable pub told : StepAt → Result (Option PathStep) BadPath
+told (StepAt.Name b f x) = Ok (Some (Name b f x))
+told (StepAt.Number v x) = Ok (Some (Number (min v 16777216) x))
+told StepAt.End = Ok None
+told (StepAt.Refused p) = Err (record { place = p })
 
 -- what is read where the path has not ended
 abbrev pub some_step : Result PathStep BadPath → Result (Option PathStep) BadPath

@@ -7,11 +7,11 @@ use Rattle.paths.specs.Grammar.{Selector, name, number}
 
 -- what stands at a place: `.name`, its bytes b to f, and what follows it from x on; `[number]`, its value, and what follows it; nothing more; or no
 -- step, with the place of the first byte that no path could have there, or the length
-pub data Step : Type 0 where
-  Name : (b f x : ℕ) → Step
-  Number : (v x : ℕ) → Step
-  End : Step
-  Refused : ℕ → Step
+pub data StepAt : Type 0 where
+  Name : (b f x : ℕ) → StepAt
+  Number : (v x : ℕ) → StepAt
+  End : StepAt
+  Refused : ℕ → StepAt
 
 abbrev pub in_range : ℕ → ℕ → ℕ → Bool
 in_range lo hi b = leb lo b && leb b hi
@@ -42,22 +42,22 @@ abbrev pub number_end : List ℕ → ℕ → ℕ
 number_end path a = pick (eqb (get_or path a 0) 48) (a + 1) (run_end is_digit path (a + 1))
 
 -- a name that begins at a
-abbrev pub name_at : List ℕ → ℕ → Step
+abbrev pub name_at : List ℕ → ℕ → StepAt
 name_at path a = pick (is_head (get_or path a 0)) (Name a (run_end is_tail path (a + 1)) (run_end is_tail path (a + 1))) (Refused a)
 
 -- the bracket at e, behind a number of value v
-abbrev pub bracketed : List ℕ → ℕ → ℕ → Step
+abbrev pub bracketed : List ℕ → ℕ → ℕ → StepAt
 bracketed path e v = pick (eqb (get_or path e 0) 93) (Number v (e + 1)) (Refused e)
 
 -- a number that begins at a, with its bracket
-abbrev pub number_at : List ℕ → ℕ → Step
+abbrev pub number_at : List ℕ → ℕ → StepAt
 number_at path a =
     pick (is_digit (get_or path a 0))
     (bracketed path (number_end path a) (decimal path a (number_end path a - a)))
     (Refused a)
 
 -- the step that begins at a place
-unfoldable pub step_at : List ℕ → ℕ → Step
+unfoldable pub step_at : List ℕ → ℕ → StepAt
 unfolding is_head is_digit is_tail decimal
 step_at path at =
     pick (ltb at (length path))
@@ -69,7 +69,7 @@ step_at path at =
     End
 
 -- by the kind of a step
-abbrev pub on_step {ℓ} : {A : Type ℓ} → Step → (ℕ → ℕ → ℕ → A) → (ℕ → ℕ → A) → A → (ℕ → A) → A
+abbrev pub on_step {ℓ} : {A : Type ℓ} → StepAt → (ℕ → ℕ → ℕ → A) → (ℕ → ℕ → A) → A → (ℕ → A) → A
 on_step (Name b f x) named numbered end refused = named b f x
 on_step (Number v x) named numbered end refused = numbered v x
 on_step End named numbered end refused = end

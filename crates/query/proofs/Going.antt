@@ -11,7 +11,7 @@ use Rattle.rules.specs.Word.{pick}
 use Rattle.rules.proofs.Booleans.{impossible}
 use Rattle.paths.specs.Places.{byte_in, between}
 use Rattle.paths.specs.Grammar.{Selector, name, number}
-use Rattle.paths.specs.Path.{Step, step_at, Reading, good, bad, before, read_from, read_path, large}
+use Rattle.paths.specs.Path.{StepAt, step_at, Reading, good, bad, before, read_from, read_path, large}
 use Rattle.paths.specs.Helpers.{told, path_check}
 use Rattle.query.specs.Items.{lent}
 use Rattle.query.specs.Walk.{name_step, number_step, step_by, walk_from}
@@ -73,13 +73,13 @@ next : {path : List ℕ} {x : ℕ} {one : Selector} {left : List Selector} (c : 
 next c (good ss) q e = record { fuel = c; rest = ss; is = cc; reads = q }
 next c (bad p) q e = impossible (cc)
 
-next_name : {path : List ℕ} (at : ℕ) {b f x : ℕ} {left : List Selector} (c : ℕ) → read_from c path at ≡ good left → step_at path at ≡ Step.Name b f x
+next_name : {path : List ℕ} (at : ℕ) {b f x : ℕ} {left : List Selector} (c : ℕ) → read_from c path at ≡ good left → step_at path at ≡ StepAt.Name b f x
     → Next path x (name (between (byte_in path) b f)) left
 unfolding read_from
 next_name at zero r e = impossible (cc)
 next_name {path} at {b} {f} {x} (suc c) r e = next c (read_from c path x) refl (sym (read_name path at c e) ∙ r)
 
-next_number : {path : List ℕ} (at : ℕ) {v x : ℕ} {left : List Selector} (c : ℕ) → read_from c path at ≡ good left → step_at path at ≡ Step.Number v x → Next path x (number v) left
+next_number : {path : List ℕ} (at : ℕ) {v x : ℕ} {left : List Selector} (c : ℕ) → read_from c path at ≡ good left → step_at path at ≡ StepAt.Number v x → Next path x (number v) left
 unfolding read_from
 next_number at zero r e = impossible (cc)
 next_number {path} at {v} {x} (suc c) r e = next c (read_from c path x) refl (sym (read_number path at c e) ∙ r)
@@ -175,9 +175,9 @@ module _ {text words : List ℕ} {s : Shape} {path : List ℕ} {from to a e at k
   unfolding read_from walk_from told
   stop_end no_step ss r = g.same ss r ∙ ap (λ (l : List Selector). walk_from (byte_in text) (lent words s.levels s.width) k l a e) (none g.fuel g.reads (step_at path at) refl)
     where
-      none : (c : ℕ) → read_from c path at ≡ good g.left → (st : Step) → step_at path at ≡ st → g.left ≡ []
+      none : (c : ℕ) → read_from c path at ≡ good g.left → (st : StepAt) → step_at path at ≡ st → g.left ≡ []
       none zero r st q = impossible (cc)
-      none (suc c) r (Step.Name b f x) q = absurd (no_step (Kind.Name b f x) (ap told q))
-      none (suc c) r (Step.Number v x) q = absurd (no_step (Kind.Number (min v 16777216) x) (ap told q))
-      none (suc c) r Step.End q = let e : ◌≡◌ {A = Reading} (good []) (good g.left) = rw q at r in cc
-      none (suc c) r (Step.Refused p) q = let e : ◌≡◌ {A = Reading} (bad p) (good g.left) = rw q at r in impossible (cc)
+      none (suc c) r (StepAt.Name b f x) q = absurd (no_step (Kind.Name b f x) (ap told q))
+      none (suc c) r (StepAt.Number v x) q = absurd (no_step (Kind.Number (min v 16777216) x) (ap told q))
+      none (suc c) r StepAt.End q = let e : ◌≡◌ {A = Reading} (good []) (good g.left) = rw q at r in cc
+      none (suc c) r (StepAt.Refused p) q = let e : ◌≡◌ {A = Reading} (bad p) (good g.left) = rw q at r in impossible (cc)

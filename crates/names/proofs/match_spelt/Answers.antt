@@ -10,7 +10,7 @@ use lib.ListN.{length, get_or, take, drop}
 use Rattle.paths.proofs.PlaceLaws.{rest_is}
 use Rattle.names.specs.Spelling.{spelling, matched}
 use Rattle.names.specs.Helpers.{another}
-use Rattle.names.proofs.SpellingLaws.{spelt_in, none_left, match_none, match_wrong, match_next, match_other}
+use Rattle.names.proofs.SpellingLaws.{spelt_within, none_left, match_none, match_wrong, match_next, match_other}
 use Rattle.names.proofs.match_spelt.Goals as goal
 use Rattle.names.proofs.match_spelt.Goals.{then-is_empty-via-then-is_empty, then-is_empty-via-else-is_empty+then-left-here}
 
@@ -20,19 +20,13 @@ returns-in_err-here c = let l = c.loop-rest in
     rw (l.invariant, match_wrong l.left.now l.rest.now (omega arith) (sym c.spelt_at.ensures ∙ c.in_err-here.was)) (search rules)
 
 pub overflow_add-rest : goal.overflow_add-rest
-overflow_add-rest c = let l = c.loop-rest in
-    let n = eqb-false (length l.rest.now) 0 (sym c.is_empty.ensures ∙ c.loop-rest-test.true) in
-    omega (arith, spelt_in l.rest.now (omega arith) (sym c.spelt_at.ensures ∙ c.in_ok-here.was))
+overflow_add-rest c = omega (arith, spelt_within c.loop-rest.rest.now (sym c.is_empty.ensures ∙ c.loop-rest-test.true) (sym c.spelt_at.ensures ∙ c.in_ok-here.was))
 
 pub slice_bounds-rest-count : goal.slice_bounds-rest-count
-slice_bounds-rest-count c = let l = c.loop-rest in
-    let n = eqb-false (length l.rest.now) 0 (sym c.is_empty.ensures ∙ c.loop-rest-test.true) in
-    omega (arith, spelt_in l.rest.now (omega arith) (sym c.spelt_at.ensures ∙ c.in_ok-here.was))
+slice_bounds-rest-count c = omega (arith, spelt_within c.loop-rest.rest.now (sym c.is_empty.ensures ∙ c.loop-rest-test.true) (sym c.spelt_at.ensures ∙ c.in_ok-here.was))
 
 pub slice_bounds-rest-start : goal.slice_bounds-rest-start
-slice_bounds-rest-start c = let l = c.loop-rest in
-    let n = eqb-false (length l.rest.now) 0 (sym c.is_empty.ensures ∙ c.loop-rest-test.true) in
-    omega (arith, spelt_in l.rest.now (omega arith) (sym c.spelt_at.ensures ∙ c.in_ok-here.was))
+slice_bounds-rest-start c = omega (arith, spelt_within c.loop-rest.rest.now (sym c.is_empty.ensures ∙ c.loop-rest-test.true) (sym c.spelt_at.ensures ∙ c.in_ok-here.was))
 
 pub returns-then-is_empty : goal.returns-then-is_empty
 returns-then-is_empty c = let l = c.loop-rest in
