@@ -3,3 +3,4 @@ pub mod TableLaws
 pub mod FrontLaws
 pub mod WhereLaws
 pub mod VerdictLaws
+pub mod FeedLaws

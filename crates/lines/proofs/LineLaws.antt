@@ -7,19 +7,16 @@ use mathlib.Core.List.{List, [], ◌∷◌}
 use native.Mathlib.Omega.{arith}
 use native.Mathlib.Decide.{dec_lt}
 use native.Mathlib.Nat.{lt_of_not-le}
-use lib.ListN.{length, get_or, take, drop, length-drop}
+use lib.ListN.{length, get_or, take, drop}
 use lib.Seq.{drop-cons}
 use lib.Dec.{ltb}
 use borrow.Author.Tests.{lt-ltb, le-ltb}
 use Rattle.rules.proofs.Booleans.{impossible}
-use Rattle.paths.proofs.PlaceLaws.{first_none, first_here, first_next, first_ge, first_le, first_at_is, first_all}
+use Rattle.paths.proofs.PlaceLaws.{first_none, first_here, first_next, first_ge, first_le}
 use Rattle.paths.specs.Places.{byte_in}
 use Rattle.query.specs.Items.{is_blank, solid}
-use Rattle.memchr.specs.Find.{Nowhere, NoneBefore, Passes, is_byte}
 use Rattle.std.specs.List.{list_all}
-use Rattle.std.specs.declared.ops.Range.{Range}
-use Rattle.std.proofs.lemmas.Bool.{false_from_ne_true}
-use Rattle.std.proofs.lemmas.List.{take_rest, get_or-drop}
+use Rattle.query.specs.declared.types.Part.{Part}
 use Rattle.lines.specs.Lines.{Entry, feed_at, line_end, is_blank_line, unless_blank, lines_in, lines_from, head_line, line_from, At, End}
 
 -- ---- blank or not, byte by byte
@@ -60,32 +57,6 @@ module _ (text : List ℕ) where
       let at : a + (e - a) ≡ e = omega arith in
       blank_part (e - a) a (omega arith) ∙ ap (is_blank_line text a) at
 
--- ---- where a line ends, by a search over what lies from a on
-
-module _ (text : List ℕ) (a : ℕ) (l : a ≤ length text) where
-  abbrev rest : List ℕ
-  rest = take (length text - a) (drop a text)
-
-  rest_long : length rest ≡ length text - a
-  rest_long = ap length (take_rest text a) ∙ length-drop a text
-
-  same : (k : ℕ) → is_byte 10 (get_or rest k 0) ≡ feed_at text (a + k)
-  unfolding feed_at byte_in
-  same k = rw (take_rest text a, get_or-drop a text k 0)
-
-  missed : (i k : ℕ) → Nowhere (Passes (is_byte 10) rest) 0 i → a ≤ k → k < a + i → feed_at text k ≡ false
-  missed i k n p q =
-      let at : a + (k - a) ≡ k = omega arith in
-      false_from_ne_true (feed_at text k) (λ t. n (k - a) (omega arith) (omega arith) (same (k - a) ∙ ap (feed_at text) at ∙ t))
-
-  pub end_found : (i : ℕ) → NoneBefore (Passes (is_byte 10) rest) 0 (length rest) i × Passes (is_byte 10) rest i → a + i ≡ line_end text a
-  unfolding line_end
-  end_found i h = sym (first_at_is (feed_at text) a (a + i) (length text) (omega arith) (omega (arith, h.0.high, rest_long)) (λ k p q. missed i k h.0.before p q) (sym (same i) ∙ h.1))
-
-  pub end_unfound : Nowhere (Passes (is_byte 10) rest) 0 (length rest) → length text ≡ line_end text a
-  unfolding line_end
-  end_unfound n = sym (first_all (feed_at text) a (length text) l (λ k p q. missed (length rest) k n p (omega (arith, rest_long))))
-
 -- ---- line by line
 
 module _ (text : List ℕ) where
@@ -93,6 +64,9 @@ module _ (text : List ℕ) where
   pub end_bounds : (a : ℕ) → a ≤ length text → (a ≤ line_end text a) × (line_end text a ≤ length text)
   unfolding line_end
   end_bounds a l = (first_ge (feed_at text) a (length text) l, first_le (feed_at text) a (length text) l)
+
+  pub end_within : (a r : ℕ) → a ≤ length text → r ≡ line_end text a → (a ≤ r) × (r ≤ length text)
+  end_within a r l e = rw e (end_bounds a l)
 
   abbrev pub here : ℕ → Entry
   here a = record { start = a; end = line_end text a }
@@ -179,9 +153,9 @@ module _ (text : List ℕ) where
       go (none z) = let w = sym (ap head_line z) ∙ q in impossible (cc)
       go (one t f d) =
           let w : At t f ≡ At s e = sym (ap head_line d.listed) ∙ q in
-          let r : ◌≡◌ {A = Range ℕ} (record { start = t; end = f }) (record { start = s; end = e }) = cc in
-          let x : t ≡ s = ap (λ (p : Range ℕ). p.start) r in
-          let y : f ≡ e = ap (λ (p : Range ℕ). p.end) r in
+          let r : ◌≡◌ {A = Part} (record { start = t; end = f }) (record { start = s; end = e }) = cc in
+          let x : t ≡ s = ap (λ (p : Part). p.start) r in
+          let y : f ≡ e = ap (λ (p : Part). p.end) r in
           rw (← x, ← y) d
 
   pub next_end : (a : ℕ) → line_from text a ≡ End → lines_from text a ≡ []

@@ -1,13 +1,13 @@
 -- The lines of a text: "cut at LF bytes in strings too, the LF in no line, a last line without LF counted"; those that are not blank.
 use Rattle.std.specs.Prelude.{ℕ, zero, suc, ◌+◌, ◌≤◌, ◌<◌, ◌≡◌, Bool, true, false, not, List, [], ◌∷◌, ◌⊎◌, length, ltb, eqb, Option, Some, None}
-use Rattle.std.specs.declared.ops.Range.{Range}
 use Rattle.rules.specs.Word.{pick}
 use Rattle.paths.specs.Places.{byte_in, first_at}
 use Rattle.query.specs.Items.{solid}
+use Rattle.query.specs.declared.types.Part.{Part}
 
 -- where the next line lies, if there is one
 abbrev pub Line : Type 0
-Line = Option (Range ℕ)
+Line = Option Part
 
 abbrev pub At : ℕ → ℕ → Line
 At s e = Some (record { start = s; end = e })

@@ -10,7 +10,7 @@ use chunks::levelling::level_words;
 use chunks::scanning::scan_words;
 use index::{Answer, Refusal};
 use layout::{size_of, width_of};
-use std::ops::Range;
+use query::types::Part;
 
 // By arms: a case with a refusal or a fault has that one's numbers.
 impl LineAnswer {
@@ -98,7 +98,7 @@ fn index_front(line: &[u8], words: &mut [u64], levels: usize) -> Answer
 
 // Where the line with number i lies in a text of n bytes, if it does.
 #[tactic(auto, unfolding(crate::specs::Jobs::line_at))]
-fn line_at(n: usize, table: &[usize], i: usize) -> Option<Range<usize>>
+fn line_at(n: usize, table: &[usize], i: usize) -> Option<Part>
     ensures value { result ≡ line_at n table.now i }
     ensures within { IfSome result (λ line. (line.start ≤ line.end) × (line.end ≤ n)) }
 {
@@ -110,7 +110,7 @@ fn line_at(n: usize, table: &[usize], i: usize) -> Option<Range<usize>>
     if end < start || n < end {
         return None;
     }
-    Some(start..end)
+    Some(Part { start, end })
 }
 
 // Indexes the line with number i of a table: its bytes alone, in the front of the words.

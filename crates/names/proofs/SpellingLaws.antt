@@ -16,7 +16,7 @@ use Rattle.std.specs.Char.{digit_value}
 use Rattle.std.specs.Option.{SomeIff}
 use Rattle.std.proofs.lemmas.List.{get_or-drop, length-drop}
 use Rattle.rules.specs.Word.{pick, below}
-use Rattle.rules.proofs.Booleans.{bool3, impossible}
+use Rattle.rules.proofs.Booleans.{bool3, impossible, told_some, told_none}
 use Rattle.texts.proofs.Tests.{and_false}
 use Rattle.paths.proofs.PlaceLaws.{pick_ind, rest_is}
 use Rattle.paths.proofs.PathLaws.{range_of}
@@ -26,6 +26,13 @@ use Rattle.names.specs.Spells.{Plain}
 use Rattle.names.specs.Helpers.{another}
 use Rattle.names.specs.declared.Spelt.{Spelt}
 use Rattle.names.specs.declared.BadEscape.{BadEscape}
+
+-- a digit, and a byte that is none, as the code tells them
+pub hex_told : (b : ℕ) {x : ℕ} → below 16 (hex_of b) ≡ Some x → (is_hex b ≡ true) × (hex_of b ≡ x) × (x < 16)
+hex_told b e = let t = told_some (is_hex b) (hex_of b) e in let l = ltb-true (hex_of b) 16 t.0 in (t.0, t.1, omega arith)
+
+pub hex_untold : (b : ℕ) → below 16 (hex_of b) ≡ None → is_hex b ≡ false
+hex_untold b e = told_none (is_hex b) (hex_of b) e
 
 pub none_left : (xs : List ℕ) → length xs ≡ 0 → xs ≡ []
 none_left [] e = refl

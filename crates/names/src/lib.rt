@@ -43,6 +43,7 @@ fn short_of(b: u8) -> Option<u32>
 }
 
 // Four hexadecimal digits.
+#[tactic(auto, using(crate::proofs::SpellingLaws::hex_told, crate::proofs::SpellingLaws::hex_untold), unfolding(crate::specs::Spelling::four_of))]
 fn four_digits(digits: &[u8]) -> Option<u32>
     requires { 4 ≤ length digits.now }
     ensures { result ≡ below 0x10000 (four_of (get_or digits.now 0 0) (get_or digits.now 1 0) (get_or digits.now 2 0) (get_or digits.now 3 0)) }

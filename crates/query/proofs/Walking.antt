@@ -10,7 +10,7 @@ use lib.Count.{count_trailing_zeros}
 use borrow.Author.Tests.{lt-ltb, le-ltb}
 use Rattle.paths.specs.Places.{first_at}
 use Rattle.query.specs.Items.{or_else, first_item_in, first_item}
-use Rattle.std.specs.declared.ops.Range.{Range}
+use Rattle.query.specs.declared.types.Part.{Part}
 use Rattle.query.specs.Item.{Item, Other}
 use Rattle.query.specs.declared.items.Broken.{Broken}
 use Rattle.rules.proofs.Booleans.{impossible}
@@ -109,7 +109,7 @@ module _ (item : ℕ → ℕ → Item) (t : ℕ → Bool) (lo hi : ℕ) where
         go zero n e = absurd (omega arith)
         go (suc f) n e = e ∙ items_stop item t hi f start (at + count_trailing_zeros 64 x) (comma_here ne l) (λ q. o (sym i ∙ q)) ∙ i
 
-    pub walking_found : {part : Range ℕ} → (x ≡ 0 → ⊥) → at + count_trailing_zeros 64 x < hi → item start (at + count_trailing_zeros 64 x) ≡ Ok (Some part) → first_item item t lo hi ≡ Ok (Some part)
+    pub walking_found : {part : Part} → (x ≡ 0 → ⊥) → at + count_trailing_zeros 64 x < hi → item start (at + count_trailing_zeros 64 x) ≡ Ok (Some part) → first_item item t lo hi ≡ Ok (Some part)
     walking_found = walking_stop (Ok (Some _)) (λ q. impossible (cc))
 
     pub walking_broken : {broken : Broken} → (x ≡ 0 → ⊥) → at + count_trailing_zeros 64 x < hi → item start (at + count_trailing_zeros 64 x) ≡ Err broken → first_item item t lo hi ≡ Err broken

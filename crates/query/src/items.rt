@@ -8,9 +8,8 @@ ghost use Rattle.query.specs.Items.{value_at, quoted, keyed, item_at, first_item
 
 use crate::bits::Lent;
 use crate::blanks;
-use crate::types::Cause;
+use crate::types::{Cause, Part};
 use layout::Map;
-use std::ops::Range;
 
 // What is wrong with an item, and where it begins.
 #[derive(Clone, Copy, Debug, PartialEq, Eq)]
@@ -20,18 +19,18 @@ pub struct Broken {
 }
 
 // What an item is to a step: the value that was asked for, without end blanks, at least one byte; or none, not the one; or broken.
-pub type Item = Result<Option<Range<usize>>, Broken>;
+pub type Item = Result<Option<Part>, Broken>;
 
 // The value from a to e without end blanks, of an item that begins at that place.
 #[tactic(auto, using(paths::proofs::PlaceLaws::first_le), unfolding(crate::specs::Items::value_at))]
-pub fn value_at(text: &[u8], place: usize, a: usize, e: usize) -> Result<Range<usize>, Broken>
+pub fn value_at(text: &[u8], place: usize, a: usize, e: usize) -> Result<Part, Broken>
     requires { (a ≤ e) × (e ≤ length text.now) }
     ensures { as_item result ≡ value_at (byte_in text.now) place a e }
 {
     let start = blanks::skip_blanks(text, a, e);
     let end = blanks::drop_blanks(text, start, e);
     if start < end {
-        Ok(start..end)
+        Ok(Part { start, end })
     } else {
         Err(Broken {
             why: Cause::EmptyValue,
@@ -133,7 +132,7 @@ impl<'a> Lent<'a> {
 
     // The item of level k that begins at start.
     #[tactic(auto, using(paths::proofs::PlaceLaws::first_ge, paths::proofs::PlaceLaws::first_le), unfolding(crate::specs::Items::item_no))]
-    fn item_from(&self, k: usize, start: usize, hi: usize) -> Result<Range<usize>, Broken>
+    fn item_from(&self, k: usize, start: usize, hi: usize) -> Result<Part, Broken>
         requires le_k { (1 ≤ k) × (k ≤ self.now.shape.levels) }
         requires start_le_hi { (start ≤ hi) × (hi ≤ length self.now.text.now) }
         ensures { as_item result ≡ item_no (byte_in self.now.text.now) (bit_at self.now (Commas k)) 0 start hi }

@@ -55,7 +55,7 @@ pub fn query<'a>(
     *place = told.place();
     *step = told.step();
     match told {
-        Ok(part) => &text[part],
+        Ok(part) => &text[part.start..part.end],
         Err(_) => &text[..0],
     }
 }

@@ -3,7 +3,6 @@ ghost use Rattle.std.specs.Prelude.{◌≡◌, ℕ};
 ghost use Rattle.query.specs.Answers.{miss_number, cause_number, refusal_number, refusal_place, refusal_step, number_of, place_of, step_of};
 
 use paths::PathRefusal;
-use std::ops::Range;
 
 // Why a step finds nothing in its value, by its number.
 #[derive(Clone, Copy, Debug, PartialEq, Eq)]
@@ -61,8 +60,15 @@ impl From<PathRefusal> for Refusal {
     }
 }
 
-// Where the part lies in the record, end not included, or why there is none.
-pub type Answer = Result<Range<usize>, Refusal>;
+// Where a part lies in its text, end not included. (No Range: std's is not Copy, and an answer is copied like any number.)
+#[derive(Clone, Copy, Debug, PartialEq, Eq)]
+pub struct Part {
+    pub start: usize,
+    pub end: usize,
+}
+
+// Where the part lies in the record, or why there is none.
+pub type Answer = Result<Part, Refusal>;
 
 impl Miss {
     pub fn number(self) -> u64

@@ -8,10 +8,9 @@ ghost use Rattle.query.specs.Walk.{of_item, framed, filled, name_step, number_st
 
 use crate::bits::Lent;
 use crate::items::{Broken, Item};
-use crate::types::{Answer, Miss, Refusal};
+use crate::types::{Answer, Miss, Part, Refusal};
 use crate::{blanks, items};
 use paths::PathStep;
-use std::ops::Range;
 
 // Step number k finds nothing in the value that begins at a.
 fn missed(why: Miss, k: usize, a: usize) -> Refusal
@@ -101,7 +100,7 @@ impl<'a> Lent<'a> {
 
     // All steps of a path that was checked, so that none is refused, from the value of `$` on. (A `loop`: it ends where no step is left.)
     #[tactic(auto, using(paths::proofs::PathLaws::name_told, paths::proofs::PathLaws::number_told, crate::proofs::Going::going_start, crate::proofs::Going::level_name, crate::proofs::Going::going_name, crate::proofs::Going::level_number, crate::proofs::Going::going_number))]
-    fn walk_path(&self, path: &[u8], whole: Range<usize>) -> Answer
+    fn walk_path(&self, path: &[u8], whole: Part) -> Answer
         requires from_le_to { (whole.start ≤ whole.end) × (whole.end ≤ length self.now.text.now) }
         requires levels_value { path_check path.now self.now.shape.levels ≡ Ok tt }
         ensures { (ss : List Selector) → read_path path.now ≡ good ss → result ≡ walk_from (byte_in self.now.text.now) (bits_of self.now) 1 ss whole.start whole.end }

@@ -5,6 +5,7 @@ use crate::telling::{digest_of, tell, tell_two};
 use lines::cutting::next_line;
 use lines::indexing::index_line;
 use lines::table::{Tabled, cut_lines};
+use query::types::Part;
 use std::io;
 use std::io::{Read, Write};
 
@@ -38,7 +39,7 @@ impl<R: Read, W: Write> Trial<R, W> {
 
     // The next line, or none, as 0 and 0.
     pub fn next_one(&mut self, text: &[u8], from: usize) -> io::Result<()> {
-        let line = next_line(text, from).unwrap_or(0..0);
+        let line = next_line(text, from).unwrap_or(Part { start: 0, end: 0 });
         tell_two(&mut self.out, 0, line.start, line.end)
     }
 }

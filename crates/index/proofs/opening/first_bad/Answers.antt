@@ -1,5 +1,5 @@
 -- `first_bad` meets its contract: what is left of the search is the whole search, as long as no bad cut was met.
-use Rattle.std.proofs.Common.{◌≡◌, ℕ, ◌<◌, ◌≤◌, true, List, length, Some, None, refl, ◌∙◌, add-one, lt-ltb, le-ltb}
+use Rattle.std.proofs.Common.{◌≡◌, ℕ, ◌<◌, ◌≤◌, true, List, length, Some, None, refl, ◌∙◌, add-one, lt-ltb, le-ltb, arith}
 use native.Mathlib.Nat.{sub-zero}
 use Rattle.rules.specs.Word.{below}
 use Rattle.index.specs.Opening.{bad_cut, first_bad}
@@ -26,7 +26,7 @@ returns-then-cut-ne0 c = let l = c.loop-i in let a = c.args in
     let bad : bad_cut a.n a.cuts.now l.i ≡ true =
     elim c.then-cut-ne0.branch [
       | then-cut-ne0-via-then-cut-ne0 w ↦ bad_part a.n a.cuts.now l.i w.if-cut-ne0.true
-      | then-cut-ne0-via-else-cut-ne0+then-n-cut w ↦ bad_late a.n a.cuts.now l.i w.if-n-cut.true
+      | then-cut-ne0-via-else-cut-ne0+then-n-cut w ↦ bad_late a.n a.cuts.now l.i (omega (arith, w.if-n-cut.true))
       | then-cut-ne0-via-else-cut-ne0+else-n-cut+then-cut-before w ↦ bad_low a.n a.cuts.now l.i (rw l.invariant.before at w.if-cut-before.true)
     ] in
     found a.n a.cuts.now l.i c.loop-i-test.true l.invariant.left bad
