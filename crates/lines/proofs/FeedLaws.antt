@@ -18,11 +18,11 @@ use Rattle.paths.specs.Places.{byte_in}
 use Rattle.paths.proofs.PlaceLaws.{first_skip, first_at_is}
 use Rattle.lines.specs.Lines.{feed_at, line_end}
 
-abbrev pub is_feed : ℕ → Bool
+abbrev is_feed : ℕ → Bool
 is_feed x = eqb x 10
 
 -- the bits of the comparison of n bytes from a on with LF
-abbrev pub feeds : List ℕ → ℕ → ℕ → ℕ
+abbrev feeds : List ℕ → ℕ → ℕ → ℕ
 feeds text a n = mask_l (map is_feed (chunk a n text))
 
 digit_is : (b : Bool) → eqb (cond b 1 0) 1 ≡ b
@@ -44,10 +44,6 @@ module _ (text : List ℕ) (a n : ℕ) (room : a + n ≤ length text) (small : n
       ap (λ d. eqb d 1) digit ∙ digit_is (get_or (map is_feed (chunk a n text)) k false)
       ∙ get_or-map is_feed (chunk a n text) k 0 ∙ ap is_feed (get_or-chunk a n text k 0 l)
 
-  none_set : feeds text a n ≡ 0 → line_end text a ≡ line_end text (a + n)
-  unfolding line_end feed_at byte_in
-  none_set e = first_skip (feed_at text) a (a + n) (length text) (omega arith) room (none_from_empty_mask is_feed text a n 0 room e)
-
   lowest_set : 0 < feeds text a n → (count_trailing_zeros 64 (feeds text a n) < n) × (a + count_trailing_zeros 64 (feeds text a n) ≡ line_end text a)
   unfolding line_end
   lowest_set some =
@@ -62,6 +58,7 @@ module _ (text : List ℕ) (a n : ℕ) (room : a + n ≤ length text) (small : n
             (sym (says t here) ∙ low.1)),
       )
 
+  -- the same as the code makes it
   abbrev compared : ℕ
   compared = mask_l (map (top (hbits w8)) (zip2 (λ x y. cond (eqb x y) (2 ^ bits w8 - 1) 0) (chunk a n text) (replicate n 10))) % 2 ^ 64
 
@@ -69,7 +66,8 @@ module _ (text : List ℕ) (a n : ℕ) (room : a + n ≤ length text) (small : n
   compared_is = bitmask_splat w8 eqb (chunk a n text) n 10 (length-chunk a n text room) small
 
   pub no_feed : compared ≡ 0 → line_end text a ≡ line_end text (a + n)
-  no_feed e = none_set (sym compared_is ∙ e)
+  unfolding line_end feed_at byte_in
+  no_feed e = first_skip (feed_at text) a (a + n) (length text) (omega arith) room (none_from_empty_mask is_feed text a n 0 room (sym compared_is ∙ e))
 
   pub first_feed : (compared ≡ 0 → ⊥) → (count_trailing_zeros 64 compared < n) × (a + count_trailing_zeros 64 compared ≡ line_end text a)
   first_feed ne = subst (λ m. (count_trailing_zeros 64 m < n) × (a + count_trailing_zeros 64 m ≡ line_end text a)) (sym compared_is) (lowest_set (omega (arith, λ (z : feeds text a n ≡ 0). ne (compared_is ∙ z))))

@@ -8,7 +8,7 @@ use Rattle.whole.specs.Calls.{calls_of}
 use Rattle.whole.proofs.Jobs.{refused_whole, closed_whole}
 use Rattle.whole.proofs.run.Goals as goal
 
--- the calls that were made are these, whichever part of the list they were taken as
+-- the calls that were made are these. (Said of a list that equals them, so that a part of them is refused for the calls that it leaves out.)
 made : (text calls before words : List ℕ) (j h : Job) {xs : List ℕ} → held j before ≡ run text (calls_of xs) (held h words) → xs ≡ calls → held j before ≡ run text (calls_of calls) (held h words)
 made text calls before words j h e same = subst (λ (ys : List ℕ). held j before ≡ run text (calls_of ys) (held h words)) same e
 
